@@ -1,0 +1,12 @@
+pub mod Tree
+pub mod Place
+pub mod Patch
+pub mod Text
+pub mod Hole
+pub mod KeepsOff
+pub mod Compact
+pub mod TreeCode
+pub mod Fields
+pub mod HolePlaces
+pub mod Examples
+pub mod Ids
