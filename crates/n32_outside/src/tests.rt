@@ -1,0 +1,110 @@
+use crate::{CallList, Failed, MemSink, MemSource, OutFault, Sink, Source, StdSink, StdSource};
+use n32_values::Bytes;
+use std::alloc::Global;
+use std::io::{self, ErrorKind, Read, Write};
+use std::test::Fail;
+
+fn calls(alloc: Global, numbers: &[u64]) -> Result<CallList, Fail> {
+    let mut list = CallList::new(alloc);
+    for number in numbers {
+        list.push(*number).ok().ok_or("memory")?;
+    }
+    Ok(list)
+}
+
+#[test]
+fn objects_in_memory_fail_at_their_listed_calls(rt: HostRuntime) -> Result<(), Fail> {
+    let alloc = rt.alloc();
+    let text = Bytes::from_slice(alloc, b"abcde").ok().ok_or("memory")?;
+    let mut source = MemSource::new(text, calls(alloc, &[1, 3])?);
+    let mut sink = MemSink::new(alloc, calls(alloc, &[0, 2])?);
+    let mut room = [0u8; 2];
+    for (wanted, read) in [
+        (Ok(2), b"ab"),
+        (Err(Failed), b"ab"),
+        (Ok(2), b"cd"),
+        (Err(Failed), b"cd"),
+        (Ok(1), b"ed"),
+        (Ok(0), b"ed"),
+    ] {
+        assert!(rt; source.read(&mut room) == wanted);
+        assert!(rt; room == *read);
+    }
+    for (piece, wanted) in [
+        (b"ab", Err(OutFault::Failed)),
+        (b"cd", Ok(2)),
+        (b"ef", Err(OutFault::Failed)),
+        (b"gh", Ok(2)),
+    ] {
+        assert!(rt; sink.write(piece) == wanted);
+    }
+    assert_eq!(rt; sink.written(), b"cdgh".as_slice());
+    Ok(())
+}
+
+/// Gives at most two bytes at a read, and fails once in mid-stream.
+#[derive(Drop)]
+struct BrokenReader {
+    call: u8,
+}
+
+impl Read for BrokenReader {
+    fn read(&mut self, buf: &mut [u8]) -> io::Result<usize> {
+        self.call = self.call.saturating_add(1);
+        let piece: &[u8] = match self.call {
+            1 => b"ab",
+            2 => return Err(io::Error::from(ErrorKind::ConnectionReset)),
+            3 => b"c",
+            _ => b"",
+        };
+        let count = piece.len().min(buf.len());
+        buf[..count].copy_from_slice(&piece[..count]);
+        Ok(count)
+    }
+}
+
+#[test]
+fn a_source_over_a_reader_fails_where_the_reader_does(rt: HostRuntime) {
+    let mut source = StdSource::new(BrokenReader { call: 0 });
+    let mut room = [0u8; 4];
+    for wanted in [Ok(2), Err(Failed), Ok(1), Ok(0)] {
+        assert!(rt; source.read(&mut room) == wanted);
+    }
+    assert!(rt; room == *b"cb\0\0");
+}
+
+/// Takes at most two bytes at a write, then nothing, then fails.
+#[derive(Drop)]
+struct SlowWriter {
+    call: u8,
+}
+
+impl Write for SlowWriter {
+    fn write(&mut self, buf: &[u8]) -> io::Result<usize> {
+        self.call = self.call.saturating_add(1);
+        match self.call {
+            1 => Ok(buf.len().min(2)),
+            2 => Ok(0),
+            3 => Err(io::Error::from(ErrorKind::BrokenPipe)),
+            _ => Ok(buf.len()),
+        }
+    }
+
+    fn flush(&mut self) -> io::Result<()> {
+        Ok(())
+    }
+}
+
+#[test]
+fn a_sink_over_a_writer_fails_where_nothing_is_taken(rt: HostRuntime) {
+    let mut sink = StdSink::new(SlowWriter { call: 0 });
+    for (piece, wanted) in [
+        (b"abc".as_slice(), Ok(2)),
+        (b"c".as_slice(), Err(OutFault::Failed)),
+        (b"c".as_slice(), Err(OutFault::Failed)),
+        (b"".as_slice(), Ok(0)),
+        (b"c".as_slice(), Ok(1)),
+    ] {
+        assert!(rt; sink.write(piece) == wanted);
+    }
+}

@@ -1,0 +1,12 @@
+pub mod Trees
+pub mod Members
+pub mod Lent
+pub mod Reading
+pub mod Depths
+pub mod Written
+pub mod Texts
+pub mod RoundTrip
+pub mod Documents
+pub mod IsTree
+pub mod Hexadecimal
+pub mod UrlTexts

@@ -1,0 +1,15 @@
+pub mod Whole
+pub mod View
+pub mod Falls
+pub mod Lending
+pub mod Search
+pub mod Reading
+pub mod Data
+pub mod Tokens
+pub mod Document
+pub use Rattle.spec_documents.specs.Tree
+pub use Rattle.spec_documents.specs.Fields
+pub use Rattle.spec_documents.specs.TreeCode
+pub use Rattle.spec_documents.specs.Compact
+pub mod Base64url
+pub use Rattle.spec_documents.specs.Ids

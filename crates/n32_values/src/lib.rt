@@ -1,0 +1,33 @@
+//! The values that the other crates stand on: texts, bytes, whole numbers and document trees.
+#![tactic(auto)]
+
+mod base64url;
+mod bytes;
+mod doc;
+mod ids;
+mod list;
+mod memory;
+mod node;
+mod plmn;
+mod read;
+mod same;
+mod text;
+mod whole;
+mod write;
+
+pub use base64url::{B64Fault, base64url_tells_bytes_apart, base64url_text, read_base64url};
+pub use bytes::Bytes;
+pub use doc::Doc;
+pub use ids::{Hex64, hex64_text, read_hex64};
+pub use list::{DocList, List, TextList};
+pub use memory::NoMemory;
+pub use node::{Node, NodeList, NodeMap, copy_doc, depth};
+pub use plmn::{PlmnId, read_plmn};
+pub use read::{DocFault, read_doc};
+pub use same::is_same_doc;
+pub use text::Text;
+pub use whole::Whole;
+pub use write::doc_text;
+
+#[cfg(test)]
+mod tests;

@@ -1,0 +1,10 @@
+pub mod Answered
+pub mod Complete
+pub mod Cuts
+pub mod Endings
+pub mod Last
+pub mod Runs
+pub mod Steps
+pub mod Stopping
+pub mod Told
+pub mod Written
