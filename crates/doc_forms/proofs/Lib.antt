@@ -1,0 +1,4 @@
+pub mod Cutting
+pub mod Decimals
+pub mod Tokens
+pub mod HoleForms

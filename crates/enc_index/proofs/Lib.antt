@@ -1,0 +1,8 @@
+pub mod MarkLists
+pub mod Spellings
+pub mod Settling
+pub mod Capping
+pub mod FillTexts
+pub mod FillLists
+pub mod SiteLemmas
+pub mod FitLemmas

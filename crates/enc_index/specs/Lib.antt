@@ -1,0 +1,9 @@
+pub mod Places
+pub mod Faults
+pub mod Lines
+pub mod Marks
+pub mod Tables
+pub mod Sites
+pub mod Filling
+pub use Rattle.spec_documents.specs.Hole
+pub use Rattle.spec_documents.specs.HolePlaces
