@@ -1,0 +1,5 @@
+pub mod Reading
+pub mod Printing
+pub mod Forms
+pub mod Stage
+pub mod Kept
