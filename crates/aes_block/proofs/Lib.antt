@@ -1,0 +1,4 @@
+pub mod Below
+pub mod Entries
+pub mod KeySchedule
+pub mod Words

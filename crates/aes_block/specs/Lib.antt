@@ -1,0 +1,4 @@
+pub mod Aes
+pub mod Columns
+pub mod Field
+pub mod Vectors

@@ -1,0 +1,4 @@
+pub mod Horner
+pub mod Masks
+pub mod Nibbles
+pub mod Products

@@ -1,0 +1,87 @@
+//! The mode GCM (SP 800-38D), with nonces of 96 bits and tags of 128 bits.
+//!
+//! Slices of every length are taken. For a text of at most 68,719,476,704 bytes and additional data of
+//! less than 2^61 bytes this is the standard's GCM; past that the counter and the lengths go round.
+#![tactic(auto)]
+
+ghost use Rattle.std.specs.Prelude.{◌≡◌, ◌↔◌, ◌++◌, IsTrue};
+ghost use Rattle.std.specs.Bool.{OnTrue, OnFalse};
+ghost use Rattle.gcm_mode.specs.Gcm.{Opens, SealedOpens, Seals, lengths, tag_of};
+
+mod field;
+mod ghash;
+mod key_stream;
+
+use aes_block::BlockKey;
+pub use field::GhashTable;
+use ghash::absorb;
+use key_stream::{add_key_stream, counter_block};
+
+/// Replaces the plaintext in `buffer` by the ciphertext, and returns the tag (SP 800-38D, section 7.1).
+/// The additional data is `head` followed by `tail`.
+pub fn seal_in_place<B: BlockKey>(
+    key: &B,
+    iv: &[u8; 12],
+    head: &[u8],
+    tail: &[u8],
+    buffer: &mut [u8],
+) -> [u8; 16]
+    ensures { Seals (B.cipher key.now) iv.now (head.now ++ tail.now) buffer.old buffer.new result }
+{
+    add_key_stream(key, iv, buffer);
+    tag_of(key, iv, head, tail, buffer)
+}
+
+/// Says whether `tag` is that of the ciphertext in `buffer`, and if so replaces this by the plaintext
+/// (SP 800-38D, section 7.2). The additional data is `head` followed by `tail`.
+pub fn open_in_place<B: BlockKey>(
+    key: &B,
+    iv: &[u8; 12],
+    head: &[u8],
+    tail: &[u8],
+    buffer: &mut [u8],
+    tag: &[u8; 16],
+) -> bool
+    ensures verdict { IsTrue result ↔
+        (tag.now ≡ tag_of (B.cipher key.now) iv.now (head.now ++ tail.now) buffer.old) }
+    ensures opened { OnTrue result
+        (Opens (B.cipher key.now) iv.now (head.now ++ tail.now) buffer.old tag.now buffer.new) }
+    ensures kept { OnFalse result (buffer.new ≡ buffer.old) }
+{
+    let found = tag_of(key, iv, head, tail, buffer);
+    if *tag != found {
+        return false;
+    }
+    add_key_stream(key, iv, buffer);
+    true
+}
+
+/// A law over the definitions: what was sealed opens with the same key, nonce and additional data. The
+/// tag is equal, and the plaintext comes back.
+pub fn sealed_opens()
+    ensures { SealedOpens }
+{}
+
+fn tag_of<B: BlockKey>(key: &B, iv: &[u8; 12], head: &[u8], tail: &[u8], text: &[u8]) -> [u8; 16]
+    ensures { result ≡ tag_of (B.cipher key.now) iv.now (head.now ++ tail.now) text.now }
+{
+    let h = u128::from_be_bytes(key.encrypt_block([0; 16]));
+    let table = GhashTable::new(h);
+    let mask = u128::from_be_bytes(key.encrypt_block(counter_block(iv, 1)));
+    let sum = absorb(&table, 0, head, tail);
+    let sum = absorb(&table, sum, text, &[]);
+    let sum = table.times(sum ^ lengths(head, tail, text));
+    (mask ^ sum).to_be_bytes()
+}
+
+// The lengths of the additional data and of the ciphertext in bits, each modulo 2^64.
+fn lengths(head: &[u8], tail: &[u8], text: &[u8]) -> u128
+    ensures { result ≡ lengths (head.now ++ tail.now) text.now }
+{
+    let data_bits = ((head.len() + tail.len()) as u64).wrapping_mul(8);
+    let text_bits = (text.len() as u64).wrapping_mul(8);
+    ((data_bits as u128) << 64) | text_bits as u128
+}
+
+#[cfg(test)]
+mod tests;

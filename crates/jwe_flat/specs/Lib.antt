@@ -1,0 +1,4 @@
+pub mod Keys
+pub mod Header
+pub mod Sealing
+pub mod Form

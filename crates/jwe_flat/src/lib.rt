@@ -1,0 +1,23 @@
+//! The flattened JWE (RFC 7516, section 7.2.2) with direct encryption (RFC 7518, section 4.5) and AES GCM
+//! (RFC 7518, section 5.3): the block is its `aad`, and the values are its plaintext.
+#![tactic(auto)]
+
+mod header;
+mod jwe;
+mod key;
+mod laws;
+mod opening;
+mod read;
+mod sealing;
+mod write;
+
+pub use jwe::FlatJwe;
+pub use key::{ContentKey, Suite};
+pub use laws::{jwe_is_read_by_its_members, sealed_jwe_opens, written_jwe_is_read};
+pub use opening::{CipherWhy, JweOpen, open_jwe};
+pub use read::{JweMember, JweRead, read_jwe};
+pub use sealing::seal_jwe;
+pub use write::jwe_doc;
+
+#[cfg(test)]
+mod tests;
