@@ -1,0 +1,5 @@
+pub mod CoverLemmas
+pub mod MappingLemmas
+pub mod BodyNear
+pub mod SecretFound
+pub mod TouchLemmas

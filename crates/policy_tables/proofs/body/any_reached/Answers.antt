@@ -1,0 +1,14 @@
+use Rattle.std.proofs.Common.{sym, ◌∙◌}
+use Rattle.spec_messages.specs.Policy.{is_sensitive}
+use Rattle.http_message.specs.Reading.{kind_view}
+use Rattle.n32_values.specs.View.{tree_of}
+use Rattle.policy_documents.specs.View.{element_view}
+use Rattle.policy_tables.specs.Secrecy.{reached}
+use Rattle.policy_tables.proofs.CoverLemmas.{cover_here, cover_later}
+use Rattle.policy_tables.proofs.body.any_reached.Goals as goal
+
+pub loop-i-preserved : goal.loop-i-preserved
+loop-i-preserved c = cover_later element_view (reached (kind_view c.args.kind) (tree_of c.args.body.now) c.args.pointer.now) (is_sensitive c.args.policy.now) c.args.elements.now c.loop-i.i c.item.result.now _ c.item.ensures c.loop-i.invariant (sym c.counts.ensures ∙ c.if-counts.false)
+
+pub returns-then-counts : goal.returns-then-counts
+returns-then-counts c = cover_here element_view (reached (kind_view c.args.kind) (tree_of c.args.body.now) c.args.pointer.now) (is_sensitive c.args.policy.now) c.args.elements.now c.loop-i.i c.item.result.now _ c.item.ensures c.loop-i.invariant (sym c.counts.ensures ∙ c.if-counts.true)

@@ -1,0 +1,23 @@
+//! Which parts of a message are secret under a policy, which an intermediary may modify, and how two
+//! messages differ (TS 33.501 clause 13.2 in outline).
+#![tactic(auto)]
+
+mod address;
+mod body;
+mod covering;
+mod mapping;
+mod modifiable;
+mod secret;
+
+pub use address::{Address, LinePart, address_text};
+pub use mapping::mapping_of;
+pub use modifiable::is_modifiable;
+pub use policy_documents::{
+    Element, ElementList, Grants, IeLoc, IeType, Mapping, MappingList, Names, Pattern, PatternList,
+    Policy, PolicyMatch, PolicyRead, Target, TypeList, mapping_doc, policy_doc, read_policy,
+    same_policy,
+};
+pub use secret::{is_secret, is_secret_header, is_secret_node, is_secret_pair, is_secret_segment};
+
+#[cfg(test)]
+mod tests;
