@@ -1,0 +1,7 @@
+pub mod Statuses
+pub mod Commands
+pub mod Refusals
+pub mod LineTree
+pub mod BlockAnswers
+pub mod Views
+pub mod Runs
