@@ -1,0 +1,3 @@
+pub mod Records
+pub mod RecordDocument
+pub mod RecordRows
