@@ -1,11 +1,21 @@
 -- Listed calls, and the counts of an object in memory.
-use Rattle.std.specs.Prelude.{ℕ, ◌+◌, ◌==◌, Bool, if◌then◌else◌, min, List}
+use Rattle.std.specs.Prelude.{ℕ, ◌+◌, ◌==◌, Bool, if◌then◌else◌, min, List, [], ◌∷◌, Option, None, Some, is_some}
 use Rattle.std.specs.List.{list_any}
 use Rattle.n32_outside.specs.Causes.{last_count}
+use Rattle.n32_outside.specs.declared.calls.FailItem.{FailItem}
 
 -- whether the call of that number is listed
 abbrev pub fails_at : List ℕ → ℕ → Bool
 fails_at calls call = list_any (λ listed. listed == call) calls
+
+-- whether the failing put of that number still keeps its item, as the first item listed for the call says; none: the call doesn't fail
+abbrev pub keeps_at : List FailItem → ℕ → Option Bool
+keeps_at [] call = None
+keeps_at (item ∷ items) call = if item.call == call then Some item.keeps else keeps_at items call
+
+-- whether the keeper's call of that number is listed
+abbrev pub is_failing : List FailItem → ℕ → Bool
+is_failing items call = is_some (keeps_at items call)
 
 -- the next value of a count
 abbrev pub next_count : ℕ → ℕ

@@ -1,7 +1,9 @@
--- What is seen of a source and a sink in memory.
+-- What is seen of a source, a sink and a keeper in memory.
 use Rattle.std.specs.Prelude.{ℕ, List, drop}
 use Rattle.n32_outside.specs.declared.memory.MemSource.{MemSource}
 use Rattle.n32_outside.specs.declared.memory.MemSink.{MemSink}
+use Rattle.n32_outside.specs.declared.memory_keeper.MemKeeper.{MemKeeper}
+use Rattle.n32_outside.specs.declared.calls.FailItem.{FailItem}
 
 -- the bytes that are left
 abbrev pub source_left : MemSource → List ℕ
@@ -34,3 +36,19 @@ sink_call s = s.call
 -- how many calls have failed
 abbrev pub sink_faults : MemSink → ℕ
 sink_faults s = s.faults
+
+-- the items that it holds
+abbrev pub keeper_held : MemKeeper → List (List ℕ)
+keeper_held k = k.items
+
+-- the calls that fail
+abbrev pub keeper_fails : MemKeeper → List FailItem
+keeper_fails k = k.fails
+
+-- the number of the next call
+abbrev pub keeper_call : MemKeeper → ℕ
+keeper_call k = k.call
+
+-- how many calls have failed
+abbrev pub keeper_faults : MemKeeper → ℕ
+keeper_faults k = k.faults

@@ -1,3 +1,4 @@
+use n32_values::NoMemory;
 use std::alloc::AllocError;
 
 /// The outside failed.
@@ -20,6 +21,17 @@ impl From<AllocError> for OutFault {
     ghost from_gives = { λ _ fault. fault ≡ NoMemory };
 
     fn from(_refused: AllocError) -> OutFault {
+        OutFault::NoMemory
+    }
+}
+
+impl From<NoMemory> for OutFault {
+    ghost use Rattle.std.specs.Prelude.{◌≡◌};
+    ghost use Rattle.n32_outside.specs.declared.faults.OutFault.TheVariants.{NoMemory};
+
+    ghost from_gives = { λ _ fault. fault ≡ NoMemory };
+
+    fn from(_refused: NoMemory) -> OutFault {
         OutFault::NoMemory
     }
 }

@@ -1,20 +1,22 @@
-//! The outside of the program: what it reads from and what it writes to, each with a count of its faults.
+//! The outside of the program: what it reads from, what it writes to and what keeps its records, each with a count of its faults.
 //!
 //! A fault is answered only in a call in which the count rose, so no body can blame the outside for what it didn't do.
-//! What a source has left and what a sink was given are told where the object knows them, and contracts hold there.
+//! What a source has left, what a sink was given and what a keeper holds are told where the object knows them, and contracts hold there.
 #![tactic(auto)]
 
 mod calls;
 mod faults;
 mod memory;
+mod memory_keeper;
 mod standard;
 mod traits;
 
-pub use calls::{CallList, is_listed};
+pub use calls::{CallList, FailItem, FailList, is_listed, kept_at};
 pub use faults::{Failed, OutFault};
 pub use memory::{MemSink, MemSource};
+pub use memory_keeper::MemKeeper;
 pub use standard::{StdSink, StdSource};
-pub use traits::{Sink, Source};
+pub use traits::{Keeper, Sink, Source};
 
 #[cfg(test)]
 mod tests;

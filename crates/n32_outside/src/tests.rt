@@ -1,4 +1,7 @@
-use crate::{CallList, Failed, MemSink, MemSource, OutFault, Sink, Source, StdSink, StdSource};
+use crate::{
+    CallList, FailItem, FailList, Failed, Keeper, MemKeeper, MemSink, MemSource, OutFault, Sink,
+    Source, StdSink, StdSource,
+};
 use n32_values::Bytes;
 use std::alloc::Global;
 use std::io::{self, ErrorKind, Read, Write};
@@ -39,6 +42,47 @@ fn objects_in_memory_fail_at_their_listed_calls(rt: HostRuntime) -> Result<(), F
         assert!(rt; sink.write(piece) == wanted);
     }
     assert_eq!(rt; sink.written(), b"cdgh".as_slice());
+    Ok(())
+}
+
+fn is_found(
+    found: Result<Option<Bytes>, OutFault>,
+    wanted: Result<Option<&[u8]>, OutFault>,
+) -> bool {
+    match (found, wanted) {
+        (Ok(Some(bytes)), Ok(Some(item))) => bytes.as_slice() == item,
+        (Ok(None), Ok(None)) => true,
+        (Err(fault), Err(other)) => fault == other,
+        _ => false,
+    }
+}
+
+#[test]
+fn a_keeper_in_memory_fails_at_its_listed_calls(rt: HostRuntime) -> Result<(), Fail> {
+    let alloc = rt.alloc();
+    let mut fails = FailList::new(alloc);
+    for (call, keeps) in [(1, true), (2, false), (2, true), (5, true)] {
+        fails.push(FailItem { call, keeps }).ok().ok_or("memory")?;
+    }
+    let mut keeper = MemKeeper::new(alloc, fails);
+    for (item, wanted) in [
+        (b"zero".as_slice(), Ok(())),
+        (b"one".as_slice(), Err(OutFault::Failed)),
+        (b"lost".as_slice(), Err(OutFault::Failed)),
+        (b"".as_slice(), Ok(())),
+    ] {
+        assert!(rt; keeper.put(item) == wanted);
+    }
+    for (number, wanted) in [
+        (1, Ok(Some(b"one".as_slice()))),
+        (0, Err(OutFault::Failed)),
+        (0, Ok(Some(b"zero".as_slice()))),
+        (2, Ok(Some(b"".as_slice()))),
+        (3, Ok(None)),
+        (u64::MAX, Ok(None)),
+    ] {
+        assert!(rt; is_found(keeper.load(alloc, number), wanted));
+    }
     Ok(())
 }
 
