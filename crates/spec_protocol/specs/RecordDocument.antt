@@ -71,12 +71,11 @@ policy_in o = option_and_then (λ t. result_ok (policy_of t)) o
 
 -- ---- intermediaries: at most one identity
 
-abbrev pub if_one : Option (List Tree) → Option (List Tree)
-if_one None = None
-if_one (Some ts) = if nat_le (length ts) 1 then Some ts else None
+abbrev pub identities : List Tree → Option (List (List ℕ))
+identities ts = if nat_le (length ts) 1 then all_read (text_if is_identity) ts else None
 
 abbrev pub ipx_in : Option Tree → Option (List (List ℕ))
-ipx_in o = option_and_then (all_read (text_if is_identity)) (if_one (listed o))
+ipx_in o = option_and_then identities (listed o)
 
 -- ---- keys
 
