@@ -6,6 +6,8 @@
 
 mod calls;
 mod faults;
+mod file_keeper;
+mod line_file;
 mod memory;
 mod memory_keeper;
 mod standard;
@@ -13,6 +15,7 @@ mod traits;
 
 pub use calls::{CallList, FailItem, FailList, is_listed, kept_at};
 pub use faults::{Failed, OutFault};
+pub use file_keeper::FileKeeper;
 pub use memory::{MemSink, MemSource};
 pub use memory_keeper::MemKeeper;
 pub use standard::{StdSink, StdSource};

@@ -1,9 +1,10 @@
 use crate::{
-    CallList, FailItem, FailList, Failed, Keeper, MemKeeper, MemSink, MemSource, OutFault, Sink,
-    Source, StdSink, StdSource,
+    CallList, FailItem, FailList, Failed, FileKeeper, Keeper, MemKeeper, MemSink, MemSource,
+    OutFault, Sink, Source, StdSink, StdSource,
 };
 use n32_values::Bytes;
 use std::alloc::Global;
+use std::fs;
 use std::io::{self, ErrorKind, Read, Write};
 use std::test::Fail;
 
@@ -83,6 +84,50 @@ fn a_keeper_in_memory_fails_at_its_listed_calls(rt: HostRuntime) -> Result<(), F
     ] {
         assert!(rt; is_found(keeper.load(alloc, number), wanted));
     }
+    Ok(())
+}
+
+#[test]
+fn a_file_is_made_and_read_again_without_its_unfinished_line(rt: HostRuntime) -> Result<(), Fail> {
+    let alloc = rt.alloc();
+    let path = "kept_items.txt";
+    let mut keeper = FileKeeper::new(&rt, alloc, path).ok().ok_or("memory")?;
+    assert!(rt; is_found(keeper.load(alloc, 0), Ok(None)));
+    for (item, wanted) in [
+        (b"zero".as_slice(), Ok(())),
+        (b"".as_slice(), Ok(())),
+        (b"a\nb".as_slice(), Err(OutFault::Failed)),
+        (b"two".as_slice(), Ok(())),
+    ] {
+        assert!(rt; keeper.put(item) == wanted);
+    }
+    assert!(rt; fs::read(&rt, path)?.as_slice() == b"zero\n\ntwo\n".as_slice());
+    fs::write(&rt, path, "zero\n\ntwo\nunfin")?;
+    let mut again = FileKeeper::new(&rt, alloc, path).ok().ok_or("memory")?;
+    for (number, wanted) in [
+        (0, Ok(Some(b"zero".as_slice()))),
+        (2, Ok(Some(b"two".as_slice()))),
+        (3, Ok(None)),
+        (1, Ok(Some(b"".as_slice()))),
+        (u64::MAX, Ok(None)),
+    ] {
+        assert!(rt; is_found(again.load(alloc, number), wanted));
+    }
+    assert!(rt; again.put(b"three").is_ok());
+    assert!(rt; is_found(again.load(alloc, 3), Ok(Some(b"three".as_slice()))));
+    assert!(rt; fs::read(&rt, path)?.as_slice() == b"zero\n\ntwo\nthree\n".as_slice());
+    fs::remove_file(&rt, path)?;
+    Ok(())
+}
+
+#[test]
+fn a_file_that_can_not_be_made_fails_each_call(rt: HostRuntime) -> Result<(), Fail> {
+    let alloc = rt.alloc();
+    let mut keeper = FileKeeper::new(&rt, alloc, "no_such_folder/items.txt")
+        .ok()
+        .ok_or("memory")?;
+    assert!(rt; keeper.put(b"a") == Err(OutFault::Failed));
+    assert!(rt; is_found(keeper.load(alloc, 0), Err(OutFault::Failed)));
     Ok(())
 }
 
