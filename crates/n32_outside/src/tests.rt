@@ -3,9 +3,10 @@ use crate::{
     OutFault, Sink, Source, StdSink, StdSource,
 };
 use n32_values::Bytes;
-use std::alloc::Global;
-use std::fs;
-use std::io::{self, ErrorKind, Read, Write};
+use std::alloc::{Allocator, Global};
+use std::fs::{self, Metadata, OpenFile, OpenOptions};
+use std::io::{self, ErrorKind, Read, Seek, SeekFrom, Write};
+use std::rt::Files;
 use std::test::Fail;
 
 fn calls(alloc: Global, numbers: &[u64]) -> Result<CallList, Fail> {
@@ -116,6 +117,139 @@ fn a_file_is_made_and_read_again_without_its_unfinished_line(rt: HostRuntime) ->
     assert!(rt; again.put(b"three").is_ok());
     assert!(rt; is_found(again.load(alloc, 3), Ok(Some(b"three".as_slice()))));
     assert!(rt; fs::read(&rt, path)?.as_slice() == b"zero\n\ntwo\nthree\n".as_slice());
+    fs::remove_file(&rt, path)?;
+    Ok(())
+}
+
+/// A file that takes two bytes at its third write, and fails at the fourth.
+#[derive(Drop)]
+struct TornFile<F: Drop> {
+    file: F,
+    writes: u8,
+}
+
+impl<F: Read + Drop> Read for TornFile<F> {
+    fn read(&mut self, buf: &mut [u8]) -> io::Result<usize> {
+        self.file.read(buf)
+    }
+}
+
+impl<F: Write + Drop> Write for TornFile<F> {
+    fn write(&mut self, buf: &[u8]) -> io::Result<usize> {
+        self.writes = self.writes.saturating_add(1);
+        match self.writes {
+            3 => self.file.write(&buf[..buf.len().min(2)]),
+            4 => Err(io::Error::from(ErrorKind::StorageFull)),
+            _ => self.file.write(buf),
+        }
+    }
+
+    fn flush(&mut self) -> io::Result<()> {
+        self.file.flush()
+    }
+}
+
+impl<F: Seek + Drop> Seek for TornFile<F> {
+    fn seek(&mut self, to: SeekFrom) -> io::Result<u64> {
+        self.file.seek(to)
+    }
+}
+
+impl<F: OpenFile + Drop> OpenFile for TornFile<F> {
+    fn metadata(&self) -> io::Result<Metadata> {
+        self.file.metadata()
+    }
+
+    fn set_len(&self, size: u64) -> io::Result<()> {
+        self.file.set_len(size)
+    }
+
+    fn sync_all(&self) -> io::Result<()> {
+        self.file.sync_all()
+    }
+
+    fn sync_data(&self) -> io::Result<()> {
+        self.file.sync_data()
+    }
+}
+
+/// Files that tear.
+#[derive(Clone, Drop)]
+struct TornFiles<R: Files + Clone + Drop> {
+    inner: R,
+}
+
+impl<R: Files + Clone + Drop> Files for TornFiles<R> {
+    type File = TornFile<R::File>;
+
+    type Dir = R::Dir;
+
+    fn open_file(&self, how: &OpenOptions, path: &str) -> io::Result<TornFile<R::File>> {
+        Ok(TornFile {
+            file: self.inner.open_file(how, path)?,
+            writes: 0,
+        })
+    }
+
+    fn open_dir(&self, path: &str) -> io::Result<R::Dir> {
+        self.inner.open_dir(path)
+    }
+
+    fn metadata(&self, path: &str) -> io::Result<Metadata> {
+        self.inner.metadata(path)
+    }
+
+    fn symlink_metadata(&self, path: &str) -> io::Result<Metadata> {
+        self.inner.symlink_metadata(path)
+    }
+
+    fn copy(&self, from: &str, to: &str) -> io::Result<u64> {
+        self.inner.copy(from, to)
+    }
+
+    fn rename(&self, from: &str, to: &str) -> io::Result<()> {
+        self.inner.rename(from, to)
+    }
+
+    fn remove_file(&self, path: &str) -> io::Result<()> {
+        self.inner.remove_file(path)
+    }
+
+    fn create_dir(&self, path: &str) -> io::Result<()> {
+        self.inner.create_dir(path)
+    }
+
+    fn remove_dir(&self, path: &str) -> io::Result<()> {
+        self.inner.remove_dir(path)
+    }
+
+    fn remove_dir_all<B: Allocator>(&self, alloc: B, path: &str) -> io::Result<()> {
+        self.inner.remove_dir_all(alloc, path)
+    }
+}
+
+#[test]
+fn what_a_failed_put_left_of_its_line_is_cut_off(rt: HostRuntime) -> Result<(), Fail> {
+    let alloc = rt.alloc();
+    let path = "torn_items.txt";
+    let files = TornFiles { inner: rt };
+    let mut keeper = FileKeeper::new(files, alloc, path).ok().ok_or("memory")?;
+    for (item, wanted, left) in [
+        (b"zero".as_slice(), Ok(()), b"zero\n".as_slice()),
+        (
+            b"lost".as_slice(),
+            Err(OutFault::Failed),
+            b"zero\nlo".as_slice(),
+        ),
+        (b"one".as_slice(), Ok(()), b"zero\none\n".as_slice()),
+    ] {
+        assert!(rt; keeper.put(item) == wanted);
+        assert!(rt; fs::read(&rt, path)?.as_slice() == left);
+    }
+    assert!(rt; keeper.put(b"lost").is_err());
+    assert!(rt; is_found(keeper.load(alloc, 1), Ok(Some(b"one".as_slice()))));
+    assert!(rt; is_found(keeper.load(alloc, 2), Ok(None)));
+    assert!(rt; fs::read(&rt, path)?.as_slice() == b"zero\none\n".as_slice());
     fs::remove_file(&rt, path)?;
     Ok(())
 }

@@ -1,0 +1,101 @@
+-- What an accepted document and a sealed message tell: each check before them held.
+use Rattle.std.proofs.Common.{◌≡◌, ℕ, ◌<◌, Bool, true, false, List, length, Option, Some, None, Result, Ok, Err, refl, ap, subst}
+use Rattle.std.proofs.lemmas.Bool.{leb-false}
+use Rattle.spec_documents.specs.Tree.{Tree}
+use Rattle.spec_messages.specs.Message.{Message, wanted}
+use Rattle.spec_protocol.specs.Records.{Record, record_limit, delivered_at, next_seq}
+use Rattle.spec_exchange.specs.Chain.{◌>>=◌, unless, none_of}
+use Rattle.spec_exchange.specs.Refusals.{Refusal}
+use Rattle.spec_exchange.specs.FirstFailed.{Delivery, first_failed}
+use Rattle.spec_exchange.specs.Outside.{Reading, Read, ReadFails, BadRecord, Putting, Kept, Lost, KeptUntold, puts, behind_reading, or_refusal}
+use Rattle.spec_exchange.specs.Calls.{Sealed, Outgoing, kind_of_outgoing, protected}
+
+none_ok : {X E : Type 0} (e : X → E) (o : Option X) (u : Unit {0}) → none_of e o ≡ Ok u → o ≡ None
+none_ok e None u h = refl
+none_ok e (Some x) u h = cc
+
+unless_ok : {E : Type 0} (b : Bool) (e : E) (u : Unit {0}) → unless b e ≡ Ok u → b ≡ false
+unless_ok true e u h = cc
+unless_ok false e u h = refl
+
+wanted_ok : {X E : Type 0} (o : Option X) (e : E) (x : X) → wanted o e ≡ Ok x → o ≡ Some x
+wanted_ok None e x h = cc
+wanted_ok (Some y) e x h = cc
+
+ok_same : {A E : Type 0} (x y : A) → (let r : Result A E = Ok x in r) ≡ Ok y → x ≡ y
+ok_same x y e = cc
+
+-- the first step's value, and then the rest
+pub bind_then : {A B E P : Type 0} (r : Result A E) (f : A → Result B E) (y : B) → (r >>= f) ≡ Ok y → ((x : A) → r ≡ Ok x → f x ≡ Ok y → P) → P
+unfolding ◌>>=◌
+bind_then (Ok x) f y e k = k x refl e
+bind_then (Err d) f y e k = cc
+
+-- ---- receiving
+
+-- what stands behind a document that is delivered
+pub record IsNew (records : List Record) (node : List ℕ) (d : Delivery) : Type 0 where
+  pub node_is : d.node ≡ node
+  pub never : delivered_at node d.id d.kind d.message records ≡ None
+  pub room : length records < record_limit
+
+pub first_failed-ok : (records : List Record) (node : List ℕ) (t : Tree) (y : Delivery) → first_failed records node t ≡ Ok y → IsNew records node y
+first_failed-ok records node t y e =
+    bind_then _ _ y e λ d e_form e1.
+    bind_then _ _ y e1 λ u1 e_later e2.
+    bind_then _ _ y e2 λ x e_open e3.
+    bind_then _ _ y e3 λ k e_keys e4.
+    bind_then _ _ y e4 λ u4 e_cipher e5.
+    bind_then _ _ y e5 λ plain e_plain e6.
+    bind_then _ _ y e6 λ u6 e_replay e7.
+    bind_then _ _ y e7 λ values e_values e8.
+    bind_then _ _ y e8 λ holed e_holed e9.
+    bind_then _ _ y e9 λ content e_content e10.
+    bind_then _ _ y e10 λ u10 e_clear e11.
+    bind_then _ _ y e11 λ u11 e_limit e12.
+    let P : Delivery → Type 0 = λ y. IsNew records node y in
+    subst P (ok_same {E = Refusal} _ y e12) (record {
+      node_is = refl;
+      never = none_ok _ _ u6 e_replay;
+      room = leb-false _ _ (unless_ok _ _ u11 e_limit);
+    })
+
+-- ---- sending
+
+-- what stands behind a message that is sealed
+pub record IsNext (records : List Record) (node : List ℕ) (id : ℕ) (o : Outgoing) (s : Sealed) : Type 0 where
+  pub node_is : s.node ≡ node
+  pub id_is : s.id ≡ id
+  pub kind_is : s.kind ≡ kind_of_outgoing o
+  pub next : next_seq node id (kind_of_outgoing o) records ≡ Some s.seq
+  pub room : length records < record_limit
+
+pub protected-ok : (records : List Record) (node : List ℕ) (id : ℕ) (o : Outgoing) (m : Message) (y : Sealed) → protected records node id o m ≡ Ok y → IsNext records node id o y
+protected-ok records node id o m y e =
+    bind_then _ _ y e λ x e_open e1.
+    bind_then _ _ y e1 λ k e_keys e2.
+    bind_then _ _ y e2 λ mapping e_mapping e3.
+    bind_then _ _ y e3 λ seq e_seq e4.
+    bind_then _ _ y e4 λ u4 e_split e5.
+    bind_then _ _ y e5 λ u5 e_limit e6.
+    let P : Sealed → Type 0 = λ y. IsNext records node id o y in
+    subst P (ok_same {E = Refusal} _ y e6) (record {
+      node_is = refl;
+      id_is = refl;
+      kind_is = refl;
+      next = wanted_ok _ _ seq e_seq;
+      room = leb-false _ _ (unless_ok _ _ u5 e_limit);
+    })
+
+-- ---- calls that put one record
+
+-- a call that answers Ok has put its record
+pub puts-ok : {X : Type 0} (reading : Reading) (r : Result X Refusal) (p : Putting) (item : X → Record) (x : X)
+    → (behind_reading reading (or_refusal r (λ y. puts p (item y) y))).result ≡ Ok x
+    → (r ≡ Ok x) × ((behind_reading reading (or_refusal r (λ y. puts p (item y) y))).put ≡ Some (item x))
+puts-ok Read (Ok y) Kept item x e = (e, ap (λ z. Some (item z)) (ok_same {E = Refusal} y x e))
+puts-ok Read (Ok y) Lost item x e = cc
+puts-ok Read (Ok y) KeptUntold item x e = cc
+puts-ok Read (Err d) p item x e = cc
+puts-ok ReadFails r p item x e = cc
+puts-ok (BadRecord k) r p item x e = cc

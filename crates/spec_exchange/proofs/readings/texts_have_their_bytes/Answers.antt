@@ -1,0 +1,14 @@
+use Rattle.spec_exchange.proofs.DecodingLemmas.{bytes_of-base64url, bytes_of-is, bytes_of-none}
+use Rattle.spec_exchange.proofs.readings.texts_have_their_bytes.Goals as goal
+
+pub returns-clause-there : goal.returns-clause-there
+returns-clause-there c bytes h = bytes_of-base64url bytes h
+
+pub returns-clause-are : goal.returns-clause-are
+returns-clause-are c text bytes e = (bytes_of-is text bytes e).are
+
+pub returns-clause-text : goal.returns-clause-text
+returns-clause-text c text bytes e = (bytes_of-is text bytes e).is
+
+pub returns-clause-none : goal.returns-clause-none
+returns-clause-none c text none = bytes_of-none text none

@@ -1,0 +1,23 @@
+use Rattle.std.proofs.Common.{refl}
+use Rattle.spec_exchange.specs.Chain as chain
+use Rattle.spec_exchange.proofs.rows.form_rows.Goals as goal
+
+pub returns-clause-document : goal.returns-clause-document
+unfolding chain.◌>>=◌
+returns-clause-document c = refl
+
+pub returns-clause-absent : goal.returns-clause-absent
+unfolding chain.◌>>=◌
+returns-clause-absent c = refl
+
+pub returns-clause-text : goal.returns-clause-text
+unfolding chain.◌>>=◌
+returns-clause-text c = refl
+
+pub returns-clause-jwe : goal.returns-clause-jwe
+unfolding chain.◌>>=◌
+returns-clause-jwe c = refl
+
+pub returns-clause-told : goal.returns-clause-told
+unfolding chain.◌>>=◌
+returns-clause-told c = refl

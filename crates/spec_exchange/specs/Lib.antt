@@ -1,0 +1,11 @@
+pub mod Chain
+pub mod Decoding
+pub mod Jwe
+pub mod Received
+pub mod Rebuilding
+pub mod Refusals
+pub mod FirstFailed
+pub mod Outside
+pub mod Calls
+pub mod Rows
+pub mod Runs

@@ -1,0 +1,58 @@
+-- The records and messages of worked examples.
+use Rattle.std.specs.Prelude.{ℕ, List, [], ◌∷◌, ◌++◌, Some, None, codes}
+use Rattle.spec_messages.specs.Message.{clear, request, Message, of_request, of_response}
+use Rattle.spec_messages.specs.Policy.{Policy, fixed, variable, uri_param, ueid}
+use Rattle.spec_messages.specs.Rows.{element}
+use Rattle.spec_protocol.specs.Records.{A128Gcm, OneKey, KeySet, Context, Record, Opened, Keyed, Sent, Delivered}
+use Rattle.spec_protocol.specs.RecordRows.{sixteen_bytes}
+
+-- GET of a subscriber's slices, the subscriber's id secret
+abbrev pub slices_policy : Policy
+slices_policy = record {
+  mappings = record {
+    method = codes "GET";
+    patterns = fixed (codes "nudm-sdm") ∷ fixed (codes "v2") ∷ variable (codes "supi") ∷ fixed (codes "nssai") ∷ [];
+    elements = element uri_param ueid (codes "supi") ∷ [];
+  } ∷ [];
+  sorts = ueid ∷ [];
+}
+
+abbrev pub slices_request : Message
+slices_request = record {
+  head = request (record {
+    method = codes "GET";
+    scheme = codes "https";
+    authority = codes "udm.example";
+    version = codes "HTTP/2";
+    segments = clear (codes "nudm-sdm") ∷ clear (codes "v2") ∷ clear (codes "imsi-001010000000001") ∷ clear (codes "nssai") ∷ [];
+    query = [];
+  });
+  headers = record { name = codes "accept"; value = clear (codes "application/json") } ∷ [];
+  body = None;
+}
+
+-- ---- two nodes, A and B, whose contexts name each other
+
+abbrev pub one_key : OneKey
+one_key = record { key = sixteen_bytes; salt = 0 ∷ 1 ∷ 2 ∷ 3 ∷ 4 ∷ 5 ∷ 6 ∷ 7 ∷ [] }
+
+abbrev pub keys_from : ℕ → KeySet
+keys_from first = record { send_request = one_key; send_response = one_key; receive_request = one_key; receive_response = one_key; first = first }
+
+abbrev pub context_at : (node : List ℕ) (id : ℕ) (peer_node : List ℕ) (peer : ℕ) (plmn own peer_own : List ℕ) → Context
+context_at node id peer_node peer plmn own peer_own =
+    record { node = node; id = id; peer_node = peer_node; peer = peer; plmn = plmn; suite = A128Gcm; policy = slices_policy; own_ipx = own ∷ []; peer_ipx = peer_own ∷ [] }
+
+abbrev pub opened_both : List Record
+opened_both =
+    Opened (context_at (codes "A") 161 (codes "B") 177 (codes "00202") (codes "ipx-a") (codes "ipx-b"))
+    ∷ Opened (context_at (codes "B") 177 (codes "A") 161 (codes "00101") (codes "ipx-b") (codes "ipx-a")) ∷ []
+
+abbrev pub keyed_both : ℕ → List Record
+keyed_both first = opened_both ++ Keyed (codes "A") 161 (keys_from first) ∷ Keyed (codes "B") 177 (keys_from first) ∷ []
+
+abbrev pub after_request : List Record
+after_request = keyed_both 4294967295 ++ Sent (codes "A") 161 of_request 4294967295 4294967295 (Some 0) ∷ []
+
+abbrev pub after_reply : List Record
+after_reply = keyed_both 0 ++ Delivered (codes "B") 177 of_request 3 (Some 0) ∷ Sent (codes "B") 177 of_response 0 3 (Some 0) ∷ Delivered (codes "B") 177 of_request 4 (Some 0) ∷ []

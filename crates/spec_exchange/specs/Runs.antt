@@ -1,0 +1,58 @@
+-- Runs of calls at many nodes, over the records that one keeper holds (this project's own).
+use Rattle.std.specs.Prelude.{ℕ, Bool, false, ◌&&◌, ◌==◌, List, [], ◌∷◌, Option, Result, Ok, Err, bytes_eq}
+use Rattle.spec_documents.specs.Tree.{Tree}
+use Rattle.spec_messages.specs.Message.{Message, Kind}
+use Rattle.spec_protocol.specs.Records.{same_kind, Record}
+use Rattle.spec_exchange.specs.Refusals.{Refusal}
+use Rattle.spec_exchange.specs.FirstFailed.{Delivery}
+use Rattle.spec_exchange.specs.Outside.{Choice, with_put}
+use Rattle.spec_exchange.specs.Calls.{Sealed, Outgoing, accepted, sends}
+
+-- a call of an event. Any other event that puts a record is Puts
+pub data Call : Type 0 where
+  Deliver : (node : List ℕ) (document : Tree) → Call
+  Send : (node : List ℕ) (id : ℕ) (outgoing : Outgoing) (content : Message) → Call
+  Puts : (item : Option Record) → Call
+
+pub data Reply : Type 0 where
+  Told : (delivery : Delivery) → Reply
+  Made : (sealed : Sealed) → Reply
+  Refused : (refusal : Refusal) → Reply
+  Other : Reply
+
+abbrev pub told : Result Delivery Refusal → Reply
+told (Ok d) = Told d
+told (Err e) = Refused e
+
+abbrev pub made : Result Sealed Refusal → Reply
+made (Ok s) = Made s
+made (Err e) = Refused e
+
+-- what a call answers, and the record that is held more
+abbrev pub reply_of : List Record → Choice → Call → Reply
+reply_of records f (Deliver node t) = told (accepted f records node t).result
+reply_of records f (Send node id o content) = made (sends f records node id o content).result
+reply_of records f (Puts item) = Other
+
+abbrev pub put_of : List Record → Choice → Call → Option Record
+put_of records f (Deliver node t) = (accepted f records node t).put
+put_of records f (Send node id o content) = (sends f records node id o content).put
+put_of records f (Puts item) = item
+
+abbrev pub after : List Record → Choice → Call → List Record
+after records f call = with_put records (put_of records f call)
+
+-- the replies of a run, in order
+abbrev pub replies : List Record → List (Choice × Call) → List Reply
+replies records [] = []
+replies records (e ∷ es) = reply_of records e.0 e.1 ∷ replies (after records e.0 e.1) es
+
+-- the reply delivers this message
+abbrev pub delivers : List ℕ → ℕ → Kind → ℕ → Reply → Bool
+delivers node id kind message (Told d) = bytes_eq d.node node && ((d.id == id) && (same_kind d.kind kind && (d.message == message)))
+delivers node id kind message _ = false
+
+-- the reply is a document of this number
+abbrev pub numbers : List ℕ → ℕ → Kind → ℕ → Reply → Bool
+numbers node id kind seq (Made s) = bytes_eq s.node node && ((s.id == id) && (same_kind s.kind kind && (s.seq == seq)))
+numbers node id kind seq _ = false

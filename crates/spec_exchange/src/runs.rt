@@ -1,0 +1,19 @@
+//! Laws over runs of calls, whatever the keeper does in each.
+
+ghost use Rattle.std.specs.Prelude.{◌≡◌, ◌≤◌, ℕ, List, true, count_by};
+ghost use Rattle.spec_messages.specs.Message.{Kind};
+ghost use Rattle.spec_protocol.specs.Records.{Record, was_delivered, was_sent};
+ghost use Rattle.spec_exchange.specs.Outside.{Choice};
+ghost use Rattle.spec_exchange.specs.Runs.{Call, replies, delivers, numbers};
+
+/// Of each message at most one event delivers it, and none where it was delivered before the run.
+pub fn delivered_at_most_once()
+    ensures once { (records : List Record) (events : List (Choice × Call)) (node : List ℕ) (id : ℕ) (kind : Kind) (message : ℕ) → count_by (delivers node id kind message) (replies records events) ≤ 1 }
+    ensures held { (records : List Record) (events : List (Choice × Call)) (node : List ℕ) (id : ℕ) (kind : Kind) (message : ℕ) → was_delivered node id kind message records ≡ true → count_by (delivers node id kind message) (replies records events) ≡ 0 }
+{}
+
+/// Of each sequence number at most one document is answered, and none where the number was sent before the run.
+pub fn numbered_once()
+    ensures once { (records : List Record) (events : List (Choice × Call)) (node : List ℕ) (id : ℕ) (kind : Kind) (seq : ℕ) → count_by (numbers node id kind seq) (replies records events) ≤ 1 }
+    ensures held { (records : List Record) (events : List (Choice × Call)) (node : List ℕ) (id : ℕ) (kind : Kind) (seq : ℕ) → was_sent node id kind seq records ≡ true → count_by (numbers node id kind seq) (replies records events) ≡ 0 }
+{}
