@@ -1,0 +1,64 @@
+-- What an answer tells of the first fault of a block.
+use Rattle.std.specs.Prelude.{◌≡◌, ℕ, List, [], Option, Some, None, Result, nat_lt, codes}
+use Rattle.spec_documents.specs.Tree.{Tree, get_member}
+use Rattle.spec_documents.specs.Hole.{HolePlace, HoleFault, bad_hole, twice, missing, places}
+use Rattle.spec_messages.specs.Block.{members_of}
+use Rattle.spec_messages.specs.Fault.{BlockFault, bad_member, beyond, ie_path, overlap, bad_holes, deep, Limit, many_headers, many_items, many_values, first_of, when, as_fault, first_pathless, first_overlap, hole_fault, items_depth, limit_fault, list_of}
+use Rattle.enc_index.specs.Places.{place_view}
+use Rattle.block_forms.specs.declared.fault.LimitName.{LimitName}
+use Rattle.block_forms.specs.declared.fault.LimitName.TheVariants.{Headers, Payload, Values, Block, Wire, Alter, Records}
+use Rattle.block_forms.specs.declared.fault.BlockWhy.{BlockWhy}
+use Rattle.block_forms.specs.declared.fault.BlockWhy.TheVariants as why
+
+-- the limits of a block that is read
+abbrev pub IsLimit : LimitName → Option Limit → Type 0
+IsLimit Headers limit = limit ≡ Some many_headers
+IsLimit Payload limit = limit ≡ Some many_items
+IsLimit Values limit = limit ≡ Some many_values
+IsLimit Block limit = ⊥
+IsLimit Wire limit = ⊥
+IsLimit Alter limit = ⊥
+IsLimit Records limit = ⊥
+
+abbrev pub LimitIs : Option LimitName → Option Limit → Type 0
+LimitIs None limit = limit ≡ None
+LimitIs (Some which) limit = IsLimit which limit
+
+abbrev pub limit_of : ℕ → ℕ → ℕ → Option Limit
+limit_of headers payload count = first_of (when (nat_lt 256 headers) many_headers) (first_of (when (nat_lt 4096 payload) many_items) (when (nat_lt 1024 count) many_values))
+
+abbrev pub IsBeyond : LimitName → Option BlockFault → Type 0
+IsBeyond Headers fault = fault ≡ Some (beyond many_headers)
+IsBeyond Payload fault = fault ≡ Some (beyond many_items)
+IsBeyond Values fault = fault ≡ Some (beyond many_values)
+IsBeyond Block fault = ⊥
+IsBeyond Wire fault = ⊥
+IsBeyond Alter fault = ⊥
+IsBeyond Records fault = ⊥
+
+-- the fault that an answer names
+abbrev pub Tells : BlockWhy → Option BlockFault → Type 0
+Tells (why.Member name) fault = fault ≡ Some (bad_member name)
+Tells (why.Limit which) fault = IsBeyond which fault
+Tells (why.IePath k) fault = fault ≡ Some (ie_path k)
+Tells (why.Overlap k) fault = fault ≡ Some (overlap k)
+Tells (why.BadHole place) fault = fault ≡ Some (bad_holes (bad_hole (place_view place)))
+Tells (why.Twice n) fault = fault ≡ Some (bad_holes (twice n))
+Tells (why.Missing n) fault = fault ≡ Some (bad_holes (missing n))
+Tells why.Depth fault = fault ≡ Some deep
+
+abbrev pub IsFault : Option BlockWhy → Option BlockFault → Type 0
+IsFault None fault = fault ≡ None
+IsFault (Some w) fault = Tells w fault
+
+-- the faults of items, once the members and the limits are right
+abbrev pub later_fault : List Tree → Result (List HolePlace) HoleFault → Option BlockFault
+later_fault payload found =
+    first_of (as_fault ie_path (first_pathless 1 payload))
+    (first_of (as_fault overlap (first_overlap 1 [] payload))
+    (first_of (as_fault bad_holes (hole_fault found))
+    (when (nat_lt 64 (items_depth payload)) deep)))
+
+-- the faults once the members are right
+abbrev pub past_members : Tree → ℕ → Option BlockFault
+past_members j n = first_of (as_fault beyond (limit_fault j n)) (later_fault (list_of (get_member (codes "payload") (members_of j))) (places j n))

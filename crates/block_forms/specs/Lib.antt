@@ -1,0 +1,7 @@
+pub mod Exact
+pub mod Metadata
+pub mod Lines
+pub mod Paths
+pub mod Apart
+pub mod Faults
+pub mod Parts
