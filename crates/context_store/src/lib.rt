@@ -1,0 +1,15 @@
+//! The store of contexts: the records that a keeper holds, read once and kept in step, and the questions
+//! on them.
+#![tactic(auto)]
+
+mod facts;
+mod faults;
+mod loading;
+mod questions;
+mod store;
+
+pub use faults::{AddFault, OpenFault};
+pub use store::{RECORD_LIMIT, Store, new_store, open_store};
+
+#[cfg(test)]
+mod tests;

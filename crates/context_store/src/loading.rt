@@ -1,0 +1,68 @@
+// The records of a keeper are read.
+ghost use Rattle.std.specs.Prelude.{◌≡◌, ◌<◌, ◌≤◌, [], ◌∷◌, ◌++◌, map, length, IfOk, OnOk, IfErr, IsErrOf};
+ghost use Rattle.n32_outside.specs.Causes.{Rose};
+ghost use Rattle.n32_outside.specs.Contents.{Stays};
+ghost use Rattle.spec_protocol.specs.Records.{record_limit};
+ghost use Rattle.session_records.specs.View.{record_view};
+ghost use Rattle.session_records.specs.Reading.{ReadsRecord};
+ghost use Rattle.context_store.specs.Stores.{Holds, NamesBad, RefusesText};
+
+use crate::faults::OpenFault;
+use crate::store::RECORD_LIMIT;
+use n32_outside::{Keeper, OutFault};
+use session_records::{Record, RecordRead, read_record};
+use std::alloc::Global;
+
+// The record of the held text of this number.
+fn read_text(alloc: Global, number: u64, text: &[u8]) -> Result<Record, OpenFault>
+    ensures ok { IfOk result (λ r. ReadsRecord text.now (record_view r)) }
+    ensures room { OnOk result (number < record_limit) }
+    ensures refused { IfErr result (RefusesText number text.now) }
+{
+    if number >= RECORD_LIMIT as u64 {
+        return Err(OpenFault::Journal(number));
+    }
+    match read_record(alloc, text) {
+        Ok(record) => Ok(record),
+        Err(RecordRead::Form) => Err(OpenFault::Journal(number)),
+        Err(RecordRead::NoMemory) => Err(OpenFault::NoMemory),
+    }
+}
+
+fn push(records: &mut Vec<Record>, item: Record) -> Result<(), OpenFault>
+    ensures ok { OnOk result (records.new.items ≡ records.old.items ++ item ∷ []) }
+    ensures err { IfErr result (λ e. e ≡ OpenFault.NoMemory) }
+{
+    match records.push(item) {
+        Ok(()) => Ok(()),
+        Err(_) => Err(OpenFault::NoMemory),
+    }
+}
+
+// All records that are held, in order.
+pub(crate) fn read_records<K: Keeper>(
+    alloc: Global,
+    keeper: &mut K,
+) -> Result<Vec<Record>, OpenFault>
+    ensures ok { IfOk result (λ records. Holds (K.held keeper.old) (map record_view records.items)) }
+    ensures few { IfOk result (λ records. length records.items ≤ record_limit) }
+    ensures same { Stays (K.held keeper.old) (K.held keeper.new) }
+    ensures journal { IfErr result (NamesBad (K.held keeper.old)) }
+    ensures later { K.faults keeper.old ≤ K.faults keeper.new }
+    ensures failed { IsErrOf result OpenFault.Keeper → Rose (K.faults keeper.old) (K.faults keeper.new) }
+{
+    let mut records = Vec::new(alloc);
+    let mut number = 0u64;
+    loop {
+        match keeper.load(alloc, number) {
+            Ok(None) => return Ok(records),
+            Err(OutFault::Failed) => return Err(OpenFault::Keeper),
+            Err(OutFault::NoMemory) => return Err(OpenFault::NoMemory),
+            Ok(Some(text)) => {
+                let record = read_text(alloc, number, text.as_slice())?;
+                push(&mut records, record)?;
+            }
+        }
+        number += 1;
+    }
+}
