@@ -72,9 +72,9 @@ fn read_parts(alloc: Global, node: &Node) -> Result<Message, MessageRead>
 /// `{"statusLine":"201","headers":[..],"body":..}`. Other members are ignored, also inside the line
 /// and the headers. What is read is whole.
 ///
-/// `NotBuilt` comes first, and exactly where the document has a `statusLine`, a `body`, or a
-/// `requestLine` with a `queryFragment`. Then comes the first member that is wrong, in the order of
-/// `MessageMember`, and then `Depth`, where the body nests deeper than 64.
+/// `NotBuilt` comes first, and exactly where the document is an object with a `statusLine`. Then
+/// comes the first member that is wrong, in the order of `MessageMember`, and then `Depth`, where
+/// all members are right and the body nests deeper than 64.
 pub fn read_message(alloc: Global, node: &Node) -> Result<Message, MessageRead>
     ensures not_built { stage.is_built (tree_of node.now) ≡ false → result ≡ Err MessageRead.NotBuilt }
     ensures value { IsTrue (stage.is_built (tree_of node.now)) → Reads result (spec.message_of (tree_of node.now)) }

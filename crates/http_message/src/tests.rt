@@ -81,10 +81,9 @@ fn other_faults_are_named(rt: HostRuntime) -> Result<(), Fail> {
             "{\"requestLine\":[],\"statusLine\":1}",
             MessageRead::NotBuilt,
         ),
-        ("{\"body\":null}", MessageRead::NotBuilt),
         (
-            "{\"requestLine\":{\"queryFragment\":1}}",
-            MessageRead::NotBuilt,
+            "{\"body\":null}",
+            MessageRead::Member(MessageMember::RequestLine),
         ),
     ] {
         let fault = fault_in(rt.alloc(), text).ok().ok_or("document")?;
@@ -125,12 +124,33 @@ fn again(alloc: Global, text: &str) -> Result<Option<Node>, DocFault> {
     }
 }
 
+const LINE: &str =
+    "{\"authority\":\"a\",\"method\":\"PUT\",\"path\":\"//b/\",\"protocolVersion\":\"HTTP/2\",\"scheme\":\"http\"}";
+
 #[test]
-fn messages_are_written(rt: HostRuntime) -> Result<(), Fail> {
+fn messages_are_written_as_they_were_read(rt: HostRuntime) -> Result<(), Fail> {
     let alloc = rt.alloc();
-    let node = again(alloc, M1).ok().ok_or("document")?.ok_or("message")?;
-    let text = doc_text(alloc, &node).ok().ok_or("memory")?;
-    assert_eq!(rt; text.as_slice(), M1.as_bytes());
+    let query =
+        "\"method\":\"GET\",\"path\":\"/\",\"protocolVersion\":\"HTTP/2\",\"queryFragment\"";
+    for text in [
+        format!(in alloc; "{M1}")?,
+        format!(in alloc; "{{\"body\":null,\"requestLine\":{LINE}}}")?,
+        format!(in alloc; "{{\"body\":{{\"\":[0]}},\"requestLine\":{LINE}}}")?,
+        format!(in alloc; "{{\"body\":{NESTED},\"requestLine\":{LINE}}}")?,
+        format!(in alloc;
+            "{{\"requestLine\":{{\"authority\":\"a\",{query}:\"\",\"scheme\":\"http\"}}}}"
+        )?,
+        format!(in alloc;
+            "{{\"requestLine\":{{\"authority\":\"a\",{query}:\"a&&=&b=c=d\",\"scheme\":\"http\"}}}}"
+        )?,
+    ] {
+        let node = again(alloc, text.as_str())
+            .ok()
+            .ok_or("document")?
+            .ok_or("message")?;
+        let written = doc_text(alloc, &node).ok().ok_or("memory")?;
+        assert_eq!(rt; written.as_slice(), text.as_bytes());
+    }
     let message = Message::Response(Response {
         status: 204,
         headers: HeaderList::new(alloc),
@@ -140,6 +160,56 @@ fn messages_are_written(rt: HostRuntime) -> Result<(), Fail> {
     let text = doc_text(alloc, &node).ok().ok_or("memory")?;
     assert_eq!(rt; text.as_slice(), b"{\"statusLine\":\"204\"}".as_slice());
     Ok(())
+}
+
+// 64 lists inside one another.
+const NESTED: &str =
+    "[[[[[[[[[[[[[[[[[[[[[[[[[[[[[[[[[[[[[[[[[[[[[[[[[[[[[[[[[[[[[[[[]]]]]]]]]]]]]]]]]]]]]]]]]]]]]]]]]]]]]]]]]]]]]]]]]]]]]]]]]]]]]]]]";
+
+#[test]
+fn a_deeper_body_is_refused_after_all_members(rt: HostRuntime) -> Result<(), Fail> {
+    let alloc = rt.alloc();
+    let line = format!(in alloc; "{{\"body\":[{NESTED}],\"requestLine\":{LINE}}}")?;
+    let fault = fault_in(alloc, line.as_str()).ok().ok_or("document")?;
+    assert!(rt; fault == Some(MessageRead::Depth));
+    let headers = format!(in alloc;
+        "{{\"body\":[{NESTED}],\"headers\":0,\"requestLine\":{LINE}}}"
+    )?;
+    let fault = fault_in(alloc, headers.as_str()).ok().ok_or("document")?;
+    assert!(rt; fault == Some(MessageRead::Member(MessageMember::Headers)));
+    Ok(())
+}
+
+#[test]
+fn the_first_equals_sign_divides_a_pair(rt: HostRuntime) -> Result<(), Fail> {
+    let alloc = rt.alloc();
+    let line = "\"method\":\"GET\",\"scheme\":\"http\",\"authority\":\"a\",\"path\":\"/\"";
+    let text = format!(in alloc;
+        "{{\"requestLine\":{{{line},\"protocolVersion\":\"1\",\"queryFragment\":\"&a&=&b=c=d\"}}}}"
+    )?;
+    let doc = read_doc(alloc, text.as_bytes()).ok().ok_or("document")?;
+    let Ok(Message::Request(request)) = read_message(alloc, doc.node()) else {
+        return Err("request".into());
+    };
+    assert_eq!(rt; request.query.len(), 4);
+    for (i, name, value) in [
+        (0, "", None),
+        (1, "a", None),
+        (2, "", Some("")),
+        (3, "b", Some("c=d")),
+    ] {
+        let pair = request.query.get(i).ok_or("pair")?;
+        assert_eq!(rt; pair.name.as_str(), name);
+        assert!(rt; text_of(pair.value.as_ref()) == value, "at {i}");
+    }
+    Ok(())
+}
+
+fn text_of(part: Option<&Part>) -> Option<&str> {
+    match part {
+        Some(Part::Clear(text)) => Some(text.as_str()),
+        _ => None,
+    }
 }
 
 fn hole_of(part: Option<&Part>) -> Option<u32> {

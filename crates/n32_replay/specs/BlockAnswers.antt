@@ -1,43 +1,46 @@
 -- The answers of `blocks` (this project's own): each line's integrity-protected block under the empty policy, as TS 33.501 clause 13.2.4.3.1 has it in outline.
-use Rattle.std.specs.Prelude.{◌≡◌, ℕ, ◌+◌, List, [], ◌∷◌, ◌++◌, if◌then◌else◌, None, Result, Ok, Err, pos, codes, take}
+use Rattle.std.specs.Prelude.{◌≡◌, ℕ, ◌+◌, List, [], ◌∷◌, ◌++◌, if◌then◌else◌, None, Result, Ok, Err, pos, codes, take, nat_le}
 use Rattle.spec_documents.specs.Tree.{Tree, whole, items, members, no_members, member, trees}
 use Rattle.spec_documents.specs.Compact.{compact_text}
 use Rattle.spec_documents.specs.Place.{◌>>=◌}
-use Rattle.spec_messages.specs.Message.{Message, message_of}
+use Rattle.spec_messages.specs.Message.{Message, message_of, body_depth}
 use Rattle.spec_messages.specs.Message as spec
-use Rattle.spec_messages.specs.Policy.{values}
-use Rattle.spec_messages.specs.Block.{Meta, sent_block}
+use Rattle.spec_messages.specs.Block.{Meta}
 use Rattle.spec_messages.specs.Plain.{empty_policy}
 use Rattle.http_message.specs.Stage.{is_built}
+use Rattle.reformat_blocks.specs.Splitting.{Parts, splitting}
+use Rattle.reformat_blocks.specs.declared.message_split.LimitName.{LimitName}
 use Rattle.script_loop.specs.Lines.{lines_of, is_blank}
-use Rattle.n32_replay.specs.Refusals.{Refusal, not_built, message_member, refusal_tree}
+use Rattle.n32_replay.specs.Refusals.{Refusal, not_built, message_member, deep_body, limit_passed, refusal_tree}
 use Rattle.n32_replay.specs.LineTree.{line_tree}
 
--- a block and its values
-abbrev pub Parts : Type 0
-Parts = Tree × List Tree
-
-abbrev pub or_member_refusal : Result Message spec.Member → Result Message Refusal
-or_member_refusal (Ok m) = Ok m
-or_member_refusal (Err k) = Err (message_member k)
+-- a message whose body nests at most 64 deep
+abbrev pub shallow_message : Result Message spec.Member → Result Message Refusal
+shallow_message (Ok m) = if nat_le (body_depth m.body) 64 then Ok m else Err deep_body
+shallow_message (Err k) = Err (message_member k)
 
 -- the message that a document is of, among those that are answered yet
 abbrev pub built_message : Tree → Result Message Refusal
-built_message t = if is_built t then or_member_refusal (message_of t) else Err not_built
+built_message t = if is_built t then shallow_message (message_of t) else Err not_built
 
 -- the block is of no context and no message, and names no intermediary
 abbrev pub no_meta : Meta
 no_meta = record { context = codes "0000000000000000"; message = codes "0000000000000000"; ipx = codes "null" }
 
-abbrev pub plain_parts : Message → Parts
-plain_parts m = (sent_block empty_policy None m no_meta, values empty_policy None m)
+abbrev pub or_limit_refusal : Result Parts LimitName → Result Parts Refusal
+or_limit_refusal (Ok parts) = Ok parts
+or_limit_refusal (Err limit) = Err (limit_passed limit)
+
+-- the block and the values of a message under the empty policy
+abbrev pub plain_parts : Message → Result Parts Refusal
+plain_parts m = or_limit_refusal (splitting empty_policy None m no_meta)
 
 -- the block and the values of a line's message, or the first check that fails
 abbrev pub line_parts : List ℕ → Result Parts Refusal
 line_parts line =
     line_tree line >>= λ t.
     built_message t >>= λ m.
-    Ok (plain_parts m)
+    plain_parts m
 
 -- the document that answers line n
 abbrev pub parts_tree : ℕ → Parts → Tree

@@ -3,7 +3,7 @@ use Rattle.std.specs.Prelude.{◌≡◌, ⊤, Result, Ok, Err}
 use Rattle.http_message.specs.Reading.{member_view}
 use Rattle.n32_replay.specs.Refusals as spec
 use Rattle.n32_replay.specs.declared.refusal.Refusal.{Refusal}
-use Rattle.n32_replay.specs.declared.refusal.Refusal.TheVariants.{Syntax, Number, NotBuilt, Message}
+use Rattle.n32_replay.specs.declared.refusal.Refusal.TheVariants.{Syntax, Number, NotBuilt, Message, Depth, Limit}
 use Rattle.n32_replay.specs.declared.blocks.Unanswered.{Unanswered}
 use Rattle.n32_replay.specs.declared.blocks.Unanswered.TheVariants.{Refused, NoMemory}
 
@@ -13,6 +13,8 @@ refusal_view Syntax = spec.syntax
 refusal_view Number = spec.other_number
 refusal_view NotBuilt = spec.not_built
 refusal_view (Message k) = spec.message_member (member_view k)
+refusal_view Depth = spec.deep_body
+refusal_view (Limit l) = spec.limit_passed l
 
 -- what a step gives is what the definition gives, unless memory was refused
 abbrev pub Refuses : {B : Type 0} → Unanswered → Result B spec.Refusal → Type 0

@@ -1,16 +1,18 @@
-ghost use Rattle.std.specs.Prelude.{◌≡◌, IfOk, IsTrue, None, []};
-ghost use Rattle.spec_messages.specs.Message.{is_whole};
+ghost use Rattle.std.specs.Prelude.{◌≡◌, ◌≤◌, IfOk, IsTrue};
+ghost use Rattle.spec_messages.specs.Message.{is_whole, body_depth};
 ghost use Rattle.n32_values.specs.View.{tree_of};
-ghost use Rattle.reformat_blocks.specs.View.{meta_view, request_message};
+ghost use Rattle.http_message.specs.Reading.{message_view};
+ghost use Rattle.reformat_blocks.specs.View.{meta_view};
 ghost use Rattle.n32_replay.specs.LineTree.{line_tree};
-ghost use Rattle.n32_replay.specs.BlockAnswers.{built_message, line_parts, no_meta, block_answer};
+ghost use Rattle.n32_replay.specs.BlockAnswers.{built_message, plain_parts, line_parts, no_meta, block_answer};
 ghost use Rattle.n32_replay.specs.Views.{Gives};
 
 use crate::answers::{block_text, refusal_text};
 use crate::refusal::Refusal;
-use http_message::{Message, MessageRead, Request, read_message};
+use http_message::{Message, MessageRead, read_message};
 use n32_values::{Bytes, Doc, DocFault, NoMemory, Node, Text, read_doc};
-use reformat_blocks::{Meta, Split, split_plain};
+use policy_tables::Policy;
+use reformat_blocks::{Meta, Split, SplitFault, split};
 use script_loop::Machine;
 use std::alloc::Global;
 
@@ -44,18 +46,17 @@ fn read_line(alloc: Global, line: &[u8]) -> Result<Doc, Unanswered>
     }
 }
 
-fn read_request(alloc: Global, node: &Node) -> Result<Request, Unanswered>
-    ensures gives { Gives request_message result (built_message (tree_of node.now)) }
-    ensures whole { IfOk result (λ r. IsTrue (is_whole (request_message r))) }
-    ensures no_query { IfOk result (λ r. r.query ≡ []) }
-    ensures no_body { IfOk result (λ r. r.body ≡ None) }
+fn read_line_message(alloc: Global, node: &Node) -> Result<Message, Unanswered>
+    ensures gives { Gives message_view result (built_message (tree_of node.now)) }
+    ensures whole { IfOk result (λ m. IsTrue (is_whole (message_view m))) }
+    ensures shallow { IfOk result (λ m. body_depth (message_view m).body ≤ 64) }
 {
     match read_message(alloc, node) {
-        Ok(Message::Request(request)) => Ok(request),
+        Ok(message) => Ok(message),
         Err(MessageRead::NotBuilt) => Err(Unanswered::Refused(Refusal::NotBuilt)),
         Err(MessageRead::Member(member)) => Err(Unanswered::Refused(Refusal::Message(member))),
+        Err(MessageRead::Depth) => Err(Unanswered::Refused(Refusal::Depth)),
         Err(MessageRead::NoMemory) => Err(Unanswered::NoMemory),
-        Ok(Message::Response(_)) | Err(MessageRead::Depth) => unreachable!(),
     }
 }
 
@@ -70,14 +71,28 @@ fn no_metadata(alloc: Global) -> Result<Meta, NoMemory>
     })
 }
 
+// The block and the values of a message under the empty policy.
+fn split_message(alloc: Global, message: &Message) -> Result<Split, Unanswered>
+    requires whole { IsTrue (is_whole (message_view message.now)) }
+    requires shallow { body_depth (message_view message.now).body ≤ 64 }
+    ensures { Gives (λ split. (split.block, split.values)) result (plain_parts (message_view message.now)) }
+{
+    let meta = no_metadata(alloc)?;
+    match split(alloc, &Policy::empty(alloc), None, message, meta) {
+        Ok(parts) => Ok(parts),
+        Err(SplitFault::Limit(limit)) => Err(Unanswered::Refused(Refusal::Limit(limit))),
+        Err(SplitFault::NoMemory) => Err(Unanswered::NoMemory),
+    }
+}
+
 // The block and the values of the message that a line is.
 fn split_line(alloc: Global, line: &[u8]) -> Result<Split, Unanswered>
     ensures { Gives (λ split. (split.block, split.values)) result (line_parts line.now) }
 {
     let doc = read_line(alloc, line)?;
-    let request = read_request(alloc, doc.node())?;
-    let meta = no_metadata(alloc)?;
-    Ok(split_plain(alloc, &request, meta)?)
+    let message = read_line_message(alloc, doc.node())?;
+    let parts = split_message(alloc, &message)?;
+    Ok(parts)
 }
 
 /// The answer to a line of `blocks`, without a newline: its block under the empty policy, or the first refusal.

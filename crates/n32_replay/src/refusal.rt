@@ -4,6 +4,7 @@ ghost use Rattle.http_message.specs.Reading.{member_view};
 ghost use Rattle.n32_replay.specs.Refusals as spec;
 
 use http_message::MessageMember;
+use reformat_blocks::LimitName;
 
 /// Why a line has no other answer. The first that holds is the answer.
 #[derive(Clone, Copy, Debug, PartialEq, Eq, Drop)]
@@ -16,6 +17,10 @@ pub enum Refusal {
     NotBuilt,
     /// The first member that keeps the document from being a message.
     Message(MessageMember),
+    /// All members are right, and the body nests deeper than 64.
+    Depth,
+    /// The first limit that the block or its values pass.
+    Limit(LimitName),
 }
 
 impl Refusal {
@@ -28,7 +33,9 @@ impl Refusal {
         match self {
             Refusal::Syntax => 1,
             Refusal::Number => 2,
+            Refusal::Limit(_) => 7,
             Refusal::Message(_) => 13,
+            Refusal::Depth => 14,
             Refusal::NotBuilt => 47,
         }
     }
@@ -40,7 +47,9 @@ impl Refusal {
         match self {
             Refusal::Syntax => "SYNTAX",
             Refusal::Number => "NUMBER",
+            Refusal::Limit(_) => "LIMIT",
             Refusal::Message(_) => "MESSAGE",
+            Refusal::Depth => "DEPTH",
             Refusal::NotBuilt => "NOT_BUILT",
         }
     }
@@ -51,7 +60,8 @@ impl Refusal {
     {
         match self {
             Refusal::Message(member) => Some(member_name(*member)),
-            Refusal::Syntax | Refusal::Number | Refusal::NotBuilt => None,
+            Refusal::Limit(limit) => Some(limit_name(*limit)),
+            Refusal::Syntax | Refusal::Number | Refusal::NotBuilt | Refusal::Depth => None,
         }
     }
 }
@@ -71,5 +81,19 @@ fn member_name(member: MessageMember) -> &'static str
         MessageMember::ProtocolVersion => "protocolVersion",
         MessageMember::QueryFragment => "queryFragment",
         MessageMember::Headers => "headers",
+    }
+}
+
+fn limit_name(limit: LimitName) -> &'static str
+    ensures { result.now ≡ spec.limit_name limit }
+{
+    match limit {
+        LimitName::Headers => "headers",
+        LimitName::Payload => "payload",
+        LimitName::Values => "values",
+        LimitName::Block => "block",
+        LimitName::Wire => "wire",
+        LimitName::Alter => "alter",
+        LimitName::Records => "records",
     }
 }

@@ -43,10 +43,40 @@ fn blocks(
     Ok((status, sink))
 }
 
+// A request with this in front of its line.
+fn request_with(alloc: Global, front: &str) -> Result<String, Fail> {
+    let text = format!(in alloc; "{{{front}{}", &PLAIN[1..])?;
+    Ok(text)
+}
+
+// `count` headers, or lists inside one another.
+fn repeated(
+    alloc: Global,
+    open: &str,
+    item: &str,
+    count: usize,
+    close: &str,
+) -> Result<String, Fail> {
+    let mut text = String::from_str(alloc, open)?;
+    for i in 0..count {
+        if 0 < i {
+            text.push_str(",")?;
+        }
+        text.push_str(item)?;
+    }
+    text.push_str(close)?;
+    Ok(text)
+}
+
+const PLAIN: &str =
+    "{\"requestLine\":{\"authority\":\"a\",\"method\":\"GET\",\"path\":\"/\",\"protocolVersion\":\"1\",\"scheme\":\"http\"}}";
+
+const PLAIN_BLOCK: &str =
+    "\"requestLine\":{\"authority\":\"a\",\"method\":\"GET\",\"path\":\"/\",\"protocolVersion\":\"1\",\"scheme\":\"http\"}}";
+
 #[test]
 fn each_line_gets_its_answer(rt: HostRuntime) -> Result<(), Fail> {
     let alloc = rt.alloc();
-    let with_body = format!(in alloc; "{{\"body\":{{}},{}", &REQUEST[1..])?;
     for (line, answer) in [
         (
             "{\"a\":1.5}",
@@ -64,10 +94,6 @@ fn each_line_gets_its_answer(rt: HostRuntime) -> Result<(), Fail> {
             "{\"statusLine\":\"201\"}",
             "{\"line\":2,\"name\":\"NOT_BUILT\",\"refused\":47}\n",
         ),
-        (
-            with_body.as_str(),
-            "{\"line\":2,\"name\":\"NOT_BUILT\",\"refused\":47}\n",
-        ),
         (" \t\r", ""),
     ] {
         let script = format!(in alloc; "{REQUEST}\n{line}")?;
@@ -75,6 +101,69 @@ fn each_line_gets_its_answer(rt: HostRuntime) -> Result<(), Fail> {
         let (status, sink) = blocks(alloc, script.as_str(), &[], &[])?;
         assert_eq!(rt; status, Status::Done, "{line}");
         assert_eq!(rt; sink.written(), wanted.as_bytes(), "{line}");
+    }
+    Ok(())
+}
+
+#[test]
+fn bodies_are_split_under_the_empty_policy(rt: HostRuntime) -> Result<(), Fail> {
+    let alloc = rt.alloc();
+    let meta =
+        "\"metaData\":{\"authorizedIpxId\":\"null\",\"messageId\":\"0000000000000000\",\"n32fContextId\":\"0000000000000000\"}";
+    for (body, payload, values) in [
+        (
+            "{}",
+            "{\"iePath\":\"\",\"ieValueLocation\":\"BODY\",\"value\":{}}",
+            "",
+        ),
+        (
+            "{\"a\":{\"0\":1}}",
+            "{\"iePath\":\"/a/0\",\"ieValueLocation\":\"BODY\",\"value\":1}",
+            "",
+        ),
+        (
+            "[1,{\"encBlockIndex\":\"z\",\"k\":2}]",
+            "{\"iePath\":\"\",\"ieValueLocation\":\"BODY\",\"value\":[1,{\"encBlockIndex\":0}]}",
+            "{\"encBlockIndex\":\"z\",\"k\":2}",
+        ),
+    ] {
+        let front = format!(in alloc; "\"body\":{body},")?;
+        let script = request_with(alloc, front.as_str())?;
+        let wanted = format!(in alloc;
+            "{{\"block\":{{{meta},\"payload\":[{payload}],{PLAIN_BLOCK},\"line\":1,\"values\":[{values}]}}\n"
+        )?;
+        let (status, sink) = blocks(alloc, script.as_str(), &[], &[])?;
+        assert_eq!(rt; status, Status::Done);
+        assert_eq!(rt; sink.written(), wanted.as_bytes(), "{body}");
+    }
+    Ok(())
+}
+
+#[test]
+fn what_passes_a_limit_is_refused_after_the_members(rt: HostRuntime) -> Result<(), Fail> {
+    let alloc = rt.alloc();
+    let header = "{\"header\":\"a\",\"value\":\"\"}";
+    let hole = "{\"encBlockIndex\":0}";
+    let deep =
+        "\"body\":[[[[[[[[[[[[[[[[[[[[[[[[[[[[[[[[[[[[[[[[[[[[[[[[[[[[[[[[[[[[[[[[[]]]]]]]]]]]]]]]]]]]]]]]]]]]]]]]]]]]]]]]]]]]]]]]]]]]]]]]]]]]]]]]]],";
+    for (front, wanted) in [
+        (
+            format!(in alloc; "{deep}")?,
+            "{\"line\":1,\"name\":\"DEPTH\",\"refused\":14}\n",
+        ),
+        (
+            repeated(alloc, "\"headers\":[", header, 257, "],")?,
+            "{\"detail\":\"headers\",\"line\":1,\"name\":\"LIMIT\",\"refused\":7}\n",
+        ),
+        (
+            repeated(alloc, "\"body\":[", hole, 1025, "],")?,
+            "{\"detail\":\"values\",\"line\":1,\"name\":\"LIMIT\",\"refused\":7}\n",
+        ),
+    ] {
+        let script = request_with(alloc, front.as_str())?;
+        let (status, sink) = blocks(alloc, script.as_str(), &[], &[])?;
+        assert_eq!(rt; status, Status::Done);
+        assert_eq!(rt; sink.written(), wanted.as_bytes());
     }
     Ok(())
 }

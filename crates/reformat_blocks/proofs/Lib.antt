@@ -1,0 +1,5 @@
+pub mod Hiding
+pub mod BodyWalk
+pub mod Assembled
+pub mod Limits
+pub mod Undone

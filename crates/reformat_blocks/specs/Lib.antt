@@ -1,1 +1,4 @@
 pub mod View
+pub mod Rules
+pub mod Sent
+pub mod Splitting

@@ -3,12 +3,18 @@
 #![tactic(auto)]
 
 mod block;
+mod body;
+mod laws;
+mod message_split;
 mod meta;
-mod plain;
+mod parts;
+mod rules;
+mod sent;
 
 pub use block::{Block, Split, block_doc};
+pub use laws::split_is_undone;
+pub use message_split::{LimitName, SplitFault, split};
 pub use meta::{Meta, is_meta};
-pub use plain::split_plain;
 
 #[cfg(test)]
 mod tests;

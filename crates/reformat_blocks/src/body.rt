@@ -1,0 +1,249 @@
+// The items of a body, with a hole in the place of each outermost secret node: one walk that writes
+// the items and the values together.
+ghost use Rattle.std.specs.Prelude.{◌≡◌, ◌<◌, ◌≤◌, ◌-◌, ◌++◌, ◌∷◌, [], IfOk, OnOk, map as list_map, length, take, not, ◌&&◌, nat_lt};
+ghost use Rattle.spec_documents.specs.Fields.{field_list};
+ghost use Rattle.spec_documents.specs.Hole.{hole};
+ghost use Rattle.spec_documents.specs.Place.{pointer_text as text_of};
+ghost use Rattle.spec_documents.specs.Tree.{trees};
+ghost use Rattle.spec_messages.specs.Block.{item_tree, leaves, members_leaves};
+ghost use Rattle.spec_messages.specs.Policy.{outermost, outermost_items, outermost_members};
+ghost use Rattle.spec_messages.specs.Split.{hide, hide_items, hide_members};
+ghost use Rattle.n32_values.specs.View.{tree_of};
+ghost use Rattle.reformat_blocks.specs.Rules.{node_test};
+ghost use Rattle.reformat_blocks.specs.Sent.{item_trees, stood};
+
+use crate::parts::next_index;
+use doc_forms::{hole_node, number_text, put, put_text};
+use http_message::Kind;
+use json_ptr::{Pointer, pointer_text};
+use n32_values::{NoMemory, Node, NodeList, NodeMap, Text, TextList, copy_doc};
+use policy_tables::{Policy, is_secret_node};
+use std::alloc::Global;
+use std::mem;
+
+/// The body that is walked, with the policy, the mapping's number and the message's kind.
+#[derive(Clone, Copy, Drop)]
+pub(crate) struct Body<'a> {
+    pub(crate) policy: &'a Policy,
+    pub(crate) mapping: Option<u32>,
+    pub(crate) kind: Kind,
+    pub(crate) root: &'a Node,
+}
+
+fn is_secret(body: &Body<'_>, pointer: &Pointer, node: &Node) -> bool
+    ensures { result ≡ node_test body.now pointer.now (tree_of node.now) }
+{
+    is_secret_node(
+        body.policy,
+        body.mapping,
+        body.kind,
+        body.root,
+        pointer,
+        node,
+    )
+}
+
+// The next hole, whose value is then the node.
+fn hole_for(alloc: Global, node: &Node, values: &mut NodeList) -> Result<Node, NoMemory>
+    ensures node { IfOk result (λ n. tree_of n ≡ hole (length values.old)) }
+    ensures values { OnOk result (values.new ≡ values.old ++ tree_of node.now ∷ []) }
+{
+    let index = next_index(values)?;
+    values.push(copy_doc(alloc, node)?)?;
+    hole_node(alloc, index)
+}
+
+fn push_name(alloc: Global, pointer: &mut Pointer, name: &str) -> Result<(), NoMemory>
+    ensures { OnOk result (pointer.new ≡ pointer.old ++ name.now ∷ []) }
+{
+    pointer.push(Text::from_text(alloc, name)?)
+}
+
+fn cut_back(alloc: Global, pointer: &mut Pointer, length: usize)
+    ensures { pointer.new ≡ take length pointer.old }
+{
+    let mut tokens = mem::replace(pointer, Pointer::new(alloc))
+        .into_tokens()
+        .into_vec();
+    tokens.truncate(length);
+    *pointer = Pointer::from_tokens(TextList::from_vec(tokens));
+}
+
+// ---- nodes within an item
+
+#[cycle(hide)]
+fn hidden_node(
+    alloc: Global,
+    body: &Body<'_>,
+    node: &Node,
+    pointer: &mut Pointer,
+    values: &mut NodeList,
+) -> Result<Node, NoMemory>
+    ensures node { IfOk result (λ n. tree_of n ≡ hide (node_test body.now) pointer.old (length values.old) (tree_of node.now)) }
+    ensures values { OnOk result (values.new ≡ values.old ++ stood (outermost (node_test body.now) pointer.old (tree_of node.now))) }
+    ensures pointer { OnOk result (pointer.new ≡ pointer.old) }
+{
+    if is_secret(body, pointer, node) {
+        return hole_for(alloc, node, values);
+    }
+    match node {
+        Node::Items(list) => Ok(Node::Items(hidden_list(alloc, body, list, pointer, values)?)),
+        Node::Members(map) => Ok(Node::Members(hidden_map(alloc, body, map, pointer, values)?)),
+        _ => copy_doc(alloc, node),
+    }
+}
+
+#[cycle(hide)]
+fn hidden_list(
+    alloc: Global,
+    body: &Body<'_>,
+    list: &NodeList,
+    pointer: &mut Pointer,
+    values: &mut NodeList,
+) -> Result<NodeList, NoMemory>
+    ensures list { IfOk result (λ l. trees l ≡ hide_items (node_test body.now) pointer.old 0 (length values.old) (trees list.now)) }
+    ensures values { OnOk result (values.new ≡ values.old ++ stood (outermost_items (node_test body.now) pointer.old 0 (trees list.now))) }
+    ensures pointer { OnOk result (pointer.new ≡ pointer.old) }
+{
+    let depth = pointer.len();
+    let mut hidden = NodeList::new(alloc);
+    for i in 0..list.len() {
+        let index = number_text(alloc, i as u64)?;
+        push_name(alloc, pointer, index.as_str())?;
+        hidden.push(hidden_node(alloc, body, list.item(i), pointer, values)?)?;
+        cut_back(alloc, pointer, depth);
+    }
+    Ok(hidden)
+}
+
+#[cycle(hide)]
+fn hidden_map(
+    alloc: Global,
+    body: &Body<'_>,
+    map: &NodeMap,
+    pointer: &mut Pointer,
+    values: &mut NodeList,
+) -> Result<NodeMap, NoMemory>
+    ensures map { IfOk result (λ m. m ≡ hide_members (node_test body.now) pointer.old (length values.old) map.now) }
+    ensures values { OnOk result (values.new ≡ values.old ++ stood (outermost_members (node_test body.now) pointer.old map.now)) }
+    ensures pointer { OnOk result (pointer.new ≡ pointer.old) }
+{
+    let depth = pointer.len();
+    let mut hidden = NodeMap::new(alloc);
+    for i in 0..map.len() {
+        let (name, node) = map.entry(i);
+        push_name(alloc, pointer, name.as_str())?;
+        let node = hidden_node(alloc, body, node, pointer, values)?;
+        hidden.push_last(name.copy(alloc)?, node)?;
+        cut_back(alloc, pointer, depth);
+    }
+    Ok(hidden)
+}
+
+// ---- items
+
+fn push_item(
+    alloc: Global,
+    pointer: &Pointer,
+    value: Node,
+    items: &mut NodeList,
+) -> Result<(), NoMemory>
+    ensures { OnOk result (items.new ≡ items.old ++ item_tree (text_of pointer.now, tree_of value) ∷ []) }
+{
+    let mut item = NodeMap::new(alloc);
+    put(
+        alloc,
+        &mut item,
+        "iePath",
+        Node::Words(pointer_text(alloc, pointer)?),
+    )?;
+    put_text(alloc, &mut item, "ieValueLocation", "BODY")?;
+    put(alloc, &mut item, "value", value)?;
+    items.push(Node::Members(item))
+}
+
+// Whether the members of an object have items of their own: it has members, and isn't secret.
+fn is_opened(body: &Body<'_>, pointer: &Pointer, node: &Node, map: &NodeMap) -> bool
+    ensures { result ≡ (not (node_test body.now pointer.now (tree_of node.now)) && nat_lt 0 (length (field_list map.now))) }
+{
+    !is_secret(body, pointer, node) && 0 < map.len()
+}
+
+#[cycle(items)]
+fn push_items(
+    alloc: Global,
+    body: &Body<'_>,
+    node: &Node,
+    pointer: &mut Pointer,
+    items: &mut NodeList,
+    values: &mut NodeList,
+) -> Result<(), NoMemory>
+    ensures items { OnOk result (items.new ≡ items.old ++ item_trees (leaves pointer.old (hide (node_test body.now) pointer.old (length values.old) (tree_of node.now)))) }
+    ensures values { OnOk result (values.new ≡ values.old ++ stood (outermost (node_test body.now) pointer.old (tree_of node.now))) }
+    ensures pointer { OnOk result (pointer.new ≡ pointer.old) }
+{
+    match node {
+        Node::Members(map) => {
+            if is_opened(body, pointer, node, map) {
+                push_members(alloc, body, map, pointer, items, values)?;
+                return Ok(());
+            }
+            push_leaf(alloc, body, node, pointer, items, values)?;
+            Ok(())
+        }
+        _ => push_leaf(alloc, body, node, pointer, items, values),
+    }
+}
+
+fn push_leaf(
+    alloc: Global,
+    body: &Body<'_>,
+    node: &Node,
+    pointer: &mut Pointer,
+    items: &mut NodeList,
+    values: &mut NodeList,
+) -> Result<(), NoMemory>
+    ensures items { OnOk result (items.new ≡ items.old ++ item_tree (text_of pointer.old, hide (node_test body.now) pointer.old (length values.old) (tree_of node.now)) ∷ []) }
+    ensures values { OnOk result (values.new ≡ values.old ++ stood (outermost (node_test body.now) pointer.old (tree_of node.now))) }
+    ensures pointer { OnOk result (pointer.new ≡ pointer.old) }
+{
+    let value = hidden_node(alloc, body, node, pointer, values)?;
+    push_item(alloc, pointer, value, items)
+}
+
+#[cycle(items)]
+fn push_members(
+    alloc: Global,
+    body: &Body<'_>,
+    map: &NodeMap,
+    pointer: &mut Pointer,
+    items: &mut NodeList,
+    values: &mut NodeList,
+) -> Result<(), NoMemory>
+    ensures items { OnOk result (items.new ≡ items.old ++ item_trees (members_leaves pointer.old (hide_members (node_test body.now) pointer.old (length values.old) map.now))) }
+    ensures values { OnOk result (values.new ≡ values.old ++ stood (outermost_members (node_test body.now) pointer.old map.now)) }
+    ensures pointer { OnOk result (pointer.new ≡ pointer.old) }
+{
+    let depth = pointer.len();
+    for i in 0..map.len() {
+        let (name, node) = map.entry(i);
+        push_name(alloc, pointer, name.as_str())?;
+        push_items(alloc, body, node, pointer, items, values)?;
+        cut_back(alloc, pointer, depth);
+    }
+    Ok(())
+}
+
+/// The items of a body, which are added to `items`, and its values, which are added to `values`.
+pub(crate) fn push_body(
+    alloc: Global,
+    body: &Body<'_>,
+    items: &mut NodeList,
+    values: &mut NodeList,
+) -> Result<(), NoMemory>
+    ensures items { OnOk result (items.new ≡ items.old ++ item_trees (leaves [] (hide (node_test body.now) [] (length values.old) (tree_of body.now.root.now)))) }
+    ensures values { OnOk result (values.new ≡ values.old ++ stood (outermost (node_test body.now) [] (tree_of body.now.root.now))) }
+{
+    let mut pointer = Pointer::new(alloc);
+    push_items(alloc, body, body.root, &mut pointer, items, values)
+}

@@ -1,0 +1,124 @@
+// A message split into a block and the values that it hides.
+ghost use Rattle.std.specs.Prelude.{◌≡◌, ◌≤◌, IfOk, IsTrue, None, length, map as list_map};
+ghost use Rattle.spec_messages.specs.Block.{is_meta, is_ordered_body};
+ghost use Rattle.spec_messages.specs.Fault.{block_fault};
+ghost use Rattle.spec_messages.specs.Message.{is_whole, body_depth};
+ghost use Rattle.http_message.specs.Reading.{header_view, message_view};
+ghost use Rattle.reformat_blocks.specs.Splitting.{splitting, Splits};
+ghost use Rattle.reformat_blocks.specs.View.{meta_view};
+
+use crate::block::{Block, Split};
+use crate::meta::Meta;
+use crate::sent::sent_of;
+use doc_lengths::text_length;
+use http_message::{HeaderList, Message};
+use n32_values::{Doc, NoMemory};
+use policy_tables::Policy;
+use spec_messages::blocks::{fault_decides, sent_block_is_block};
+use spec_messages::plain::sent_block_is_shallow;
+use std::alloc::Global;
+
+/// The limits that a refusal names.
+#[derive(Clone, Copy, Debug, PartialEq, Eq, Drop)]
+pub enum LimitName {
+    /// At most 256 headers.
+    Headers,
+    /// At most 4,096 items of a body.
+    Payload,
+    /// At most 1,024 values.
+    Values,
+    /// At most 4,194,304 bytes of a block's compact text.
+    Block,
+    /// What the wire holds.
+    Wire,
+    /// The document after an operation of an alteration.
+    Alter,
+    /// The records of a store.
+    Records,
+}
+
+/// Why a message isn't split.
+#[derive(Clone, Copy, Debug, PartialEq, Eq, Drop)]
+pub enum SplitFault {
+    /// The first limit that is passed, of `Headers`, `Payload`, `Values` and `Block` in this order.
+    Limit(LimitName),
+    NoMemory,
+}
+
+impl From<NoMemory> for SplitFault {
+    ghost use Rattle.reformat_blocks.specs.declared.message_split.SplitFault.TheVariants.{NoMemory as no_memory};
+    ghost use Rattle.std.specs.Prelude.{◌≡◌};
+
+    ghost from_gives = { λ _ e. e ≡ no_memory };
+
+    fn from(_refused: NoMemory) -> SplitFault {
+        SplitFault::NoMemory
+    }
+}
+
+fn headers_of(message: &Message) -> &HeaderList
+    ensures { list_map header_view result.now ≡ (message_view message.now).headers }
+{
+    match message {
+        Message::Request(request) => &request.headers,
+        Message::Response(response) => &response.headers,
+    }
+}
+
+// The names of each object in the body are in order, as those of every document are.
+fn body_is_ordered(message: &Message)
+    ensures { IsTrue (is_ordered_body (message_view message.now).body) }
+{
+    match message {
+        Message::Request(request) => is_ordered(&request.body),
+        Message::Response(response) => is_ordered(&response.body),
+    }
+}
+
+fn is_ordered(body: &Option<Doc>)
+    ensures { IsTrue (is_ordered_body body.now) }
+{
+    if let Some(doc) = body {
+        let _node = doc.node();
+    }
+}
+
+/// Splits a whole message whose body nests at most 64 deep, under the mapping of that number: each
+/// outermost secret part goes to the values, and in the block a hole with the value's number stands
+/// in its place. The block's items are the leaves of the body; `headers` and `payload` are absent
+/// where they are empty, and ids are in lower case (after TS 33.501, clause 13.2.4.3).
+pub fn split(
+    alloc: Global,
+    policy: &Policy,
+    mapping: Option<u32>,
+    message: &Message,
+    meta: Meta,
+) -> Result<Split, SplitFault>
+    requires whole { IsTrue (is_whole (message_view message.now)) }
+    requires shallow { body_depth (message_view message.now).body ≤ 64 }
+    requires meta { IsTrue (is_meta (meta_view meta)) }
+    ensures outcome { Splits result (splitting policy.now mapping (message_view message.now) (meta_view meta)) }
+    ensures holes { IfOk result (λ s. block_fault s.block (length s.values) ≡ None) }
+{
+    sent_block_is_block();
+    fault_decides();
+    sent_block_is_shallow();
+    body_is_ordered(message);
+    if 256 < headers_of(message).len() {
+        return Err(SplitFault::Limit(LimitName::Headers));
+    }
+    let sent = sent_of(alloc, policy, mapping, message, &meta)?;
+    if 4096 < sent.items {
+        return Err(SplitFault::Limit(LimitName::Payload));
+    }
+    if 1024 < sent.values.len() {
+        return Err(SplitFault::Limit(LimitName::Values));
+    }
+    if 4_194_304 < text_length(&sent.block) {
+        return Err(SplitFault::Limit(LimitName::Block));
+    }
+    Ok(Split {
+        block: Block::of_doc(Doc::from_shallow(sent.block), sent.values.len() as u32),
+        values: sent.values,
+    })
+}
