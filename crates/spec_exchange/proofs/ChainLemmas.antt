@@ -10,7 +10,7 @@ use Rattle.spec_exchange.specs.FirstFailed.{Delivery, first_failed}
 use Rattle.spec_exchange.specs.Outside.{Reading, Read, ReadFails, BadRecord, Putting, Kept, Lost, KeptUntold, puts, behind_reading, or_refusal}
 use Rattle.spec_exchange.specs.Calls.{Sealed, Outgoing, kind_of_outgoing, protected}
 
-none_ok : {X E : Type 0} (e : X → E) (o : Option X) (u : Unit {0}) → none_of e o ≡ Ok u → o ≡ None
+pub none_ok : {X E : Type 0} (e : X → E) (o : Option X) (u : Unit {0}) → none_of e o ≡ Ok u → o ≡ None
 none_ok e None u h = refl
 none_ok e (Some x) u h = cc
 
@@ -18,11 +18,11 @@ unless_ok : {E : Type 0} (b : Bool) (e : E) (u : Unit {0}) → unless b e ≡ Ok
 unless_ok true e u h = cc
 unless_ok false e u h = refl
 
-wanted_ok : {X E : Type 0} (o : Option X) (e : E) (x : X) → wanted o e ≡ Ok x → o ≡ Some x
+pub wanted_ok : {X E : Type 0} (o : Option X) (e : E) (x : X) → wanted o e ≡ Ok x → o ≡ Some x
 wanted_ok None e x h = cc
 wanted_ok (Some y) e x h = cc
 
-ok_same : {A E : Type 0} (x y : A) → (let r : Result A E = Ok x in r) ≡ Ok y → x ≡ y
+pub ok_same : {A E : Type 0} (x y : A) → (let r : Result A E = Ok x in r) ≡ Ok y → x ≡ y
 ok_same x y e = cc
 
 -- the first step's value, and then the rest
@@ -99,3 +99,18 @@ puts-ok Read (Ok y) KeptUntold item x e = cc
 puts-ok Read (Err d) p item x e = cc
 puts-ok ReadFails r p item x e = cc
 puts-ok (BadRecord k) r p item x e = cc
+
+-- what a call puts is the record of what it would answer
+pub record IsPut {X : Type 0} (r : Result X Refusal) (item : X → Record) (put : Record) : Type 0 where
+  pub value : X
+  pub is : r ≡ Ok value
+  pub item_is : item value ≡ put
+
+pub puts-some : {X : Type 0} (reading : Reading) (r : Result X Refusal) (p : Putting) (item : X → Record) (z : Record)
+    → (behind_reading reading (or_refusal r (λ y. puts p (item y) y))).put ≡ Some z → IsPut r item z
+puts-some Read (Ok y) Kept item z e = record { value = y; is = refl; item_is = cc }
+puts-some Read (Ok y) Lost item z e = cc
+puts-some Read (Ok y) KeptUntold item z e = record { value = y; is = refl; item_is = cc }
+puts-some Read (Err d) p item z e = cc
+puts-some ReadFails r p item z e = cc
+puts-some (BadRecord k) r p item z e = cc

@@ -1,5 +1,9 @@
 pub mod ChainLemmas
 pub mod DecodingLemmas
 pub mod FormLemmas
+pub mod HiddenLemmas
+pub mod IsolationLemmas
 pub mod JweLemmas
+pub mod ReceivedLemmas
 pub mod RunLemmas
+pub mod UntouchedLemmas

@@ -9,3 +9,5 @@ pub mod Outside
 pub mod Calls
 pub mod Rows
 pub mod Runs
+pub mod Isolation
+pub mod Untouched

@@ -1,7 +1,7 @@
 -- The reformatted document (after TS 29.573 clause 5.3.2 and TS 33.501 clause 13.2.4.3; member names are this project's own): `{"reformattedData":{flattened JWE},"modificationsBlock":[entries]}`.
 use Rattle.std.specs.Prelude.{ℕ, List, [], length, ◌&&◌, nat_le, Option, Some, None, is_some, option_and_then, Result, Ok, if◌then◌else◌, codes}
 use Rattle.spec_documents.specs.Tree.{Tree, null, truth, whole, words, items, members, get_member, tree_list}
-use Rattle.spec_documents.specs.Ids.{id_of}
+use Rattle.spec_documents.specs.Ids.{hex_after}
 use Rattle.spec_messages.specs.Message.{Kind, of_request, of_response, wanted}
 use Rattle.spec_messages.specs.Block.{Meta, is_object, members_of}
 use Rattle.spec_messages.specs.Fault.{is_meta_node, meta_of, member_or_null}
@@ -49,6 +49,18 @@ entries_in (Some (words s)) = None
 entries_in (Some (items ts)) = at_most_two (tree_list ts)
 entries_in (Some (members ms)) = None
 
+-- the parts of a document with this JWE, its block and its entries. The ids are those of `metaData`
+abbrev pub parts_of : FlatJwe → Tree → List Tree → Received
+parts_of w j entries = record {
+  jwe = w;
+  block = j;
+  context = hex_after 0 (metadata_of j).context;
+  message = hex_after 0 (metadata_of j).message;
+  authorized = (metadata_of j).ipx;
+  kind = kind_in j;
+  entries = entries;
+}
+
 -- the document's parts, or the first member that has not its form
 abbrev pub received : Tree → Result Received (List ℕ)
 received t = do
@@ -56,7 +68,5 @@ received t = do
   inner ← wanted (option_and_then object_in (get_member (codes "reformattedData") ms)) (codes "reformattedData")
   w ← jwe_in inner
   j ← wanted (block_in w.aad) (codes "aad")
-  context ← wanted (id_of (metadata_of j).context) (codes "aad")
-  message ← wanted (id_of (metadata_of j).message) (codes "aad")
   entries ← wanted (entries_in (get_member (codes "modificationsBlock") ms)) (codes "modificationsBlock")
-  Ok (record { jwe = w; block = j; context = context; message = message; authorized = (metadata_of j).ipx; kind = kind_in j; entries = entries })
+  Ok (parts_of w j entries)

@@ -43,9 +43,12 @@ abbrev pub context_at : (node : List ℕ) (id : ℕ) (peer_node : List ℕ) (pee
 context_at node id peer_node peer plmn own peer_own =
     record { node = node; id = id; peer_node = peer_node; peer = peer; plmn = plmn; suite = A128Gcm; policy = slices_policy; own_ipx = own ∷ []; peer_ipx = peer_own ∷ [] }
 
+abbrev pub context_a : Context
+context_a = context_at (codes "A") 161 (codes "B") 177 (codes "00202") (codes "ipx-a") (codes "ipx-b")
+
 abbrev pub opened_both : List Record
 opened_both =
-    Opened (context_at (codes "A") 161 (codes "B") 177 (codes "00202") (codes "ipx-a") (codes "ipx-b"))
+    Opened context_a
     ∷ Opened (context_at (codes "B") 177 (codes "A") 161 (codes "00101") (codes "ipx-b") (codes "ipx-a")) ∷ []
 
 abbrev pub keyed_both : ℕ → List Record

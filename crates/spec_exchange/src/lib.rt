@@ -4,3 +4,4 @@
 pub mod readings;
 pub mod rows;
 pub mod runs;
+pub mod untouched;

@@ -1,9 +1,10 @@
 //! Laws over runs of calls, whatever the keeper does in each.
 
-ghost use Rattle.std.specs.Prelude.{◌≡◌, ◌≤◌, ℕ, List, true, count_by};
+ghost use Rattle.std.specs.Prelude.{◌≡◌, ◌≤◌, ◌+◌, ℕ, List, length, map, true, count_by};
 ghost use Rattle.spec_messages.specs.Message.{Kind};
-ghost use Rattle.spec_protocol.specs.Records.{Record, was_delivered, was_sent};
+ghost use Rattle.spec_protocol.specs.Records.{Record, record_limit, own, was_delivered, was_sent};
 ghost use Rattle.spec_exchange.specs.Outside.{Choice};
+ghost use Rattle.spec_exchange.specs.Isolation.{unnumbered_reply, own_events, own_replies};
 ghost use Rattle.spec_exchange.specs.Runs.{Call, replies, delivers, numbers};
 
 /// Of each message at most one event delivers it, and none where it was delivered before the run.
@@ -16,4 +17,9 @@ pub fn delivered_at_most_once()
 pub fn numbered_once()
     ensures once { (records : List Record) (events : List (Choice × Call)) (node : List ℕ) (id : ℕ) (kind : Kind) (seq : ℕ) → count_by (numbers node id kind seq) (replies records events) ≤ 1 }
     ensures held { (records : List Record) (events : List (Choice × Call)) (node : List ℕ) (id : ℕ) (kind : Kind) (seq : ℕ) → was_sent node id kind seq records ≡ true → count_by (numbers node id kind seq) (replies records events) ≡ 0 }
+{}
+
+/// A context is told what it would be told if no other context were there, but for the number of a replayed message's record, while the limit of records is not met.
+pub fn contexts_apart()
+    ensures { (node : List ℕ) (id : ℕ) (records : List Record) (events : List (Choice × Call)) → length records + length events ≤ record_limit → map unnumbered_reply (own_replies node id records events) ≡ map unnumbered_reply (replies (own node id records) (own_events node id events)) }
 {}

@@ -21,3 +21,21 @@ returns-clause-jwe c = refl
 pub returns-clause-told : goal.returns-clause-told
 unfolding chain.◌>>=◌
 returns-clause-told c = refl
+
+pub returns-clause-three : goal.returns-clause-three
+returns-clause-three c = refl
+
+pub returns-clause-two : goal.returns-clause-two
+returns-clause-two c = refl
+
+pub returns-clause-no_list : goal.returns-clause-no_list
+returns-clause-no_list c = refl
+
+pub returns-clause-null_list : goal.returns-clause-null_list
+returns-clause-null_list c = refl
+
+pub returns-clause-metadata : goal.returns-clause-metadata
+returns-clause-metadata c = refl
+
+pub returns-clause-no_metadata : goal.returns-clause-no_metadata
+returns-clause-no_metadata c = refl

@@ -1,0 +1,260 @@
+-- A context's calls go by its own records alone.
+use Rattle.std.proofs.Common.{◌≡◌, ℕ, ◌+◌, ◌<◌, ◌≤◌, Bool, true, false, List, [], ◌∷◌, ◌++◌, length, Option, Some, None, is_some, Result, Ok, Err, refl, sym, ap, ap₂, ◌∙◌, subst, cond, arith, length-append, map}
+use Rattle.std.specs.Prelude.{bytes_eq, nat_le, filter, ◌==◌}
+use Rattle.std.specs.List.{list_any}
+use Rattle.std.proofs.lemmas.Bool.{lt-leb, eqb-true, and_parts}
+use Rattle.std.proofs.lemmas.Slice.Eq.{bytes_eq-Decides}
+use Rattle.std.proofs.lemmas.List.Sums.{length-filter, count_by-le-length}
+use Rattle.spec_documents.specs.Tree.{Tree}
+use Rattle.spec_messages.specs.Message.{Message, Kind, wanted}
+use Rattle.spec_protocol.specs.Records.{Record, Context, is_of, own, is_closed, opened_context, first_of, record_limit, open_context, keys, keys_behind, mapping_delivered, answered, next_seq, delivered_at, was_delivered}
+use Rattle.spec_protocol.proofs.RecordLemmas.{own-append, own-append_other, delivered_at-is_some}
+use Rattle.spec_exchange.specs.Chain.{◌>>=◌, unless, none_of, or_refused}
+use Rattle.spec_exchange.specs.Received.{Received, received}
+use Rattle.spec_exchange.specs.Refusals.{Refusal, many_records, NoContext, NoReceiveKeys, Replay, Form, ContextNotFound, NoKeys, NoRequest, Answered, SeqSpent, Beyond}
+use Rattle.spec_exchange.specs.FirstFailed.{Delivery, first_failed, first_failed_of}
+use Rattle.spec_exchange.specs.Outside.{Choice, Reading, Read, ReadFails, BadRecord, Putting, Kept, Lost, KeptUntold, Outcome, puts, behind_reading, or_refusal, with_put}
+use Rattle.spec_exchange.specs.Calls.{Sealed, Outgoing, Asks, Replies, kind_of_outgoing, delivered_record, sent_record, mapping_to_send, protected}
+use Rattle.spec_exchange.specs.Runs.{Call, Deliver, Send, Puts, Reply, told, made, reply_of, put_of, after, replies}
+use Rattle.spec_exchange.specs.Isolation.{unnumbered_reply, unnumbered_result, received_id, is_id, concerns, own_events, own_replies}
+use Rattle.spec_exchange.proofs.ChainLemmas.{bind_then, ok_same, first_failed-ok, protected-ok, puts-some}
+
+-- ---- the records of one context
+
+filter-filter : {X : Type 0} (q : X → Bool) (xs : List X) → filter q (filter q xs) ≡ filter q xs
+filter-filter q [] = refl
+filter-filter q (x ∷ xs) = passed (q x) refl (filter-filter q xs)
+  where
+    passed : (b : Bool) → q x ≡ b → filter q (filter q xs) ≡ filter q xs → filter q (cond b (x ∷ filter q xs) (filter q xs)) ≡ cond b (x ∷ filter q xs) (filter q xs)
+    passed true e h = rw e (ap (λ r. x ∷ r) h)
+    passed false e h = h
+
+own-own : (node : List ℕ) (id : ℕ) (records : List Record) → own node id (own node id records) ≡ own node id records
+own-own node id records = filter-filter (is_of node id) records
+
+own-one : (node : List ℕ) (id : ℕ) (r : Record) → is_of node id r ≡ true → own node id (r ∷ []) ≡ r ∷ []
+own-one node id r e = rw e
+
+-- ---- the questions, over a context's own records
+
+open_context-own : (node : List ℕ) (id : ℕ) (records : List Record) → open_context node id (own node id records) ≡ open_context node id records
+open_context-own node id records = ap (λ (rs : List Record). cond (list_any is_closed rs) None (first_of opened_context rs)) (own-own node id records)
+
+keys-own : (node : List ℕ) (id : ℕ) (records : List Record) → keys node id (own node id records) ≡ keys node id records
+keys-own node id records = ap (keys_behind None) (own-own node id records)
+
+mapping_delivered-own : (node : List ℕ) (id message : ℕ) (records : List Record) → mapping_delivered node id message (own node id records) ≡ mapping_delivered node id message records
+mapping_delivered-own node id message records = rw own-own
+
+answered-own : (node : List ℕ) (id message : ℕ) (records : List Record) → answered node id message (own node id records) ≡ answered node id message records
+answered-own node id message records = rw own-own
+
+next_seq-own : (node : List ℕ) (id : ℕ) (kind : Kind) (records : List Record) → next_seq node id kind (own node id records) ≡ next_seq node id kind records
+next_seq-own node id kind records = rw own-own
+
+delivered_at-own : (node : List ℕ) (id : ℕ) (kind : Kind) (message : ℕ) (records : List Record) → is_some (delivered_at node id kind message records) ≡ is_some (delivered_at node id kind message (own node id records))
+delivered_at-own node id kind message records =
+    delivered_at-is_some node id kind message records ∙ (same ∙ sym (delivered_at-is_some node id kind message (own node id records)))
+  where
+    same : was_delivered node id kind message records ≡ was_delivered node id kind message (own node id records)
+    same = sym (rw own-own)
+
+own-shorter : (node : List ℕ) (id : ℕ) (records : List Record) → length (own node id records) ≤ length records
+own-shorter node id records = omega (arith, length-filter (is_of node id) records, count_by-le-length (is_of node id) records)
+
+-- below the limit both lists are
+room-own : (node : List ℕ) (id : ℕ) (records : List Record) → length records < record_limit → nat_le record_limit (length records) ≡ nat_le record_limit (length (own node id records))
+room-own node id records short =
+    let shorter : length (own node id records) < record_limit = omega (arith, own-shorter node id records) in
+    lt-leb record_limit (length records) short ∙ sym (lt-leb record_limit (length (own node id records)) shorter)
+
+-- ---- chains of checks
+
+bind_alike : {A B : Type 0} (r s : Result A Refusal) → r ≡ s → (f g : A → Result B Refusal) → ((x : A) → unnumbered_result (f x) ≡ unnumbered_result (g x)) → unnumbered_result (r >>= f) ≡ unnumbered_result (s >>= g)
+unfolding ◌>>=◌
+bind_alike (Ok x) s e f g h = rw (← e) (h x)
+bind_alike (Err d) s e f g h = rw (← e)
+
+replay_alike : {B : Type 0} (o p : Option ℕ) → is_some o ≡ is_some p → (f g : Unit {0} → Result B Refusal) → ((u : Unit {0}) → unnumbered_result (f u) ≡ unnumbered_result (g u)) → unnumbered_result (none_of (λ r. Replay r) o >>= f) ≡ unnumbered_result (none_of (λ r. Replay r) p >>= g)
+unfolding ◌>>=◌
+replay_alike None None e f g h = h tt
+replay_alike (Some a) (Some b) e f g h = refl
+replay_alike None (Some b) e f g h = cc
+replay_alike (Some a) None e f g h = cc
+
+bind_same : {A B : Type 0} (r s : Result A Refusal) → r ≡ s → (f g : A → Result B Refusal) → ((x : A) → f x ≡ g x) → (r >>= f) ≡ (s >>= g)
+unfolding ◌>>=◌
+bind_same (Ok x) s e f g h = rw (← e) (h x)
+bind_same (Err d) s e f g h = rw (← e)
+
+isolated_of : (records : List Record) (node : List ℕ) (d : Received) → length records < record_limit
+    → unnumbered_result (first_failed_of records node d) ≡ unnumbered_result (first_failed_of (own node d.context records) node d)
+isolated_of records node d short =
+    bind_alike _ _ refl _ _ λ u1.
+    bind_alike _ _ (ap (λ o. wanted o NoContext) (sym (open_context-own node d.context records))) _ _ λ x.
+    bind_alike _ _ (ap (λ o. wanted o NoReceiveKeys) (sym (keys-own node d.context records))) _ _ λ k.
+    bind_alike _ _ refl _ _ λ u4.
+    bind_alike _ _ refl _ _ λ plain.
+    replay_alike _ _ (delivered_at-own node d.context d.kind d.message records) _ _ λ u6.
+    bind_alike _ _ refl _ _ λ values.
+    bind_alike _ _ refl _ _ λ holed.
+    bind_alike _ _ refl _ _ λ content.
+    bind_alike _ _ refl _ _ λ u10.
+    bind_alike _ _ (ap (λ b. unless b (Beyond many_records)) (room-own node d.context records short)) _ _ λ u11.
+    refl
+
+received_alike : (formed : Result Received (List ℕ)) (id : ℕ) → is_id (received_id formed) id ≡ true → (f g : Received → Result Delivery Refusal) → ((d : Received) → d.context ≡ id → unnumbered_result (f d) ≡ unnumbered_result (g d))
+    → unnumbered_result (or_refused (λ m. Form m) formed >>= f) ≡ unnumbered_result (or_refused (λ m. Form m) formed >>= g)
+unfolding ◌>>=◌
+received_alike (Ok d) id e f g h = h d (eqb-true d.context id e)
+received_alike (Err m) id e f g h = refl
+
+isolated_document : (records : List Record) (node : List ℕ) (id : ℕ) (t : Tree) → is_id (received_id (received t)) id ≡ true → length records < record_limit
+    → unnumbered_result (first_failed records node t) ≡ unnumbered_result (first_failed (own node id records) node t)
+isolated_document records node id t e short =
+    received_alike (received t) id e _ _ λ d same.
+    let P : ℕ → Type 0 = λ i. unnumbered_result (first_failed_of records node d) ≡ unnumbered_result (first_failed_of (own node i records) node d) in
+    subst P same (isolated_of records node d short)
+
+mapping_to_send-own : (o : Outgoing) (x : Context) (m : Message) (records : List Record) (node : List ℕ) (id : ℕ) → mapping_to_send o x m records node id ≡ mapping_to_send o x m (own node id records) node id
+mapping_to_send-own Asks x m records node id = refl
+mapping_to_send-own (Replies to) x m records node id =
+    bind_same _ _ (ap (λ z. wanted z NoRequest) (sym (mapping_delivered-own node id to records))) _ _ λ k.
+    bind_same _ _ (ap (λ b. unless b Answered) (sym (answered-own node id to records))) _ _ λ u.
+    refl
+
+-- a message is sealed by its context's own records
+pub isolated_message : (records : List Record) (node : List ℕ) (id : ℕ) (o : Outgoing) (m : Message) → length records < record_limit → protected records node id o m ≡ protected (own node id records) node id o m
+isolated_message records node id o m short =
+    bind_same _ _ (ap (λ z. wanted z ContextNotFound) (sym (open_context-own node id records))) _ _ λ x.
+    bind_same _ _ (ap (λ z. wanted z NoKeys) (sym (keys-own node id records))) _ _ λ k.
+    bind_same _ _ (mapping_to_send-own o x m records node id) _ _ λ mapping.
+    bind_same _ _ (ap (λ z. wanted z SeqSpent) (sym (next_seq-own node id (kind_of_outgoing o) records))) _ _ λ seq.
+    bind_same _ _ refl _ _ λ t.
+    bind_same _ _ (ap (λ b. unless b (Beyond many_records)) (room-own node id records short)) _ _ λ u.
+    refl
+
+-- ---- calls
+
+-- what is delivered is the same, and what is put
+record Alike {X : Type 0} (f g : Outcome X) : Type 0 where
+  result_is : unnumbered_result f.result ≡ unnumbered_result g.result
+  put_is : f.put ≡ g.put
+
+alike-calls : {X : Type 0} (reading : Reading) (r s : Result X Refusal) (p : Putting) (item : X → Record) → unnumbered_result r ≡ unnumbered_result s
+    → Alike (behind_reading reading (or_refusal r (λ y. puts p (item y) y))) (behind_reading reading (or_refusal s (λ y. puts p (item y) y)))
+alike-calls ReadFails r s p item e = record { result_is = refl; put_is = refl }
+alike-calls (BadRecord k) r s p item e = record { result_is = refl; put_is = refl }
+alike-calls Read (Ok x) (Ok y) Kept item e = record { result_is = e; put_is = cc }
+alike-calls Read (Ok x) (Ok y) Lost item e = record { result_is = refl; put_is = refl }
+alike-calls Read (Ok x) (Ok y) KeptUntold item e = record { result_is = refl; put_is = cc }
+alike-calls Read (Err d) (Err f) p item e = record { result_is = e; put_is = refl }
+alike-calls Read (Ok x) (Err f) p item e = cc
+alike-calls Read (Err d) (Ok y) p item e = cc
+
+told-alike : (r s : Result Delivery Refusal) → unnumbered_result r ≡ unnumbered_result s → unnumbered_reply (told r) ≡ unnumbered_reply (told s)
+told-alike (Ok x) (Ok y) e = ap (λ z. told z) e
+told-alike (Err d) (Err f) e = ap (λ z. told z) e
+told-alike (Ok x) (Err f) e = cc
+told-alike (Err d) (Ok y) e = cc
+
+-- a call of the context over its own records
+record Own (node : List ℕ) (id : ℕ) (records : List Record) (f : Choice) (call : Call) : Type 0 where
+  reply_is : unnumbered_reply (reply_of records f call) ≡ unnumbered_reply (reply_of (own node id records) f call)
+  put_is : put_of records f call ≡ put_of (own node id records) f call
+
+own_call : (node : List ℕ) (id : ℕ) (records : List Record) (f : Choice) (call : Call) → concerns node id call ≡ true → length records < record_limit → Own node id records f call
+own_call node id records f (Deliver n t) e short =
+    let p = and_parts (bytes_eq n node) _ e in
+    let at : n ≡ node = (bytes_eq-Decides n node).0 p.0 in
+    let P : List ℕ → Type 0 = λ z. unnumbered_result (first_failed records n t) ≡ unnumbered_result (first_failed (own z id records) n t) in
+    let same = subst P at (isolated_document records n id t p.1 short) in
+    let a = alike-calls f.reading (first_failed records n t) (first_failed (own node id records) n t) f.putting delivered_record same in
+    record { reply_is = told-alike _ _ a.result_is; put_is = a.put_is }
+own_call node id records f (Send n i o content) e short =
+    let p = and_parts (bytes_eq n node) _ e in
+    let at : n ≡ node = (bytes_eq-Decides n node).0 p.0 in
+    let same_id : i ≡ id = eqb-true i id p.1 in
+    let P : List ℕ → Type 0 = λ z. protected records n i o content ≡ protected (own z i records) n i o content in
+    let Q : ℕ → Type 0 = λ z. protected records n i o content ≡ protected (own node z records) n i o content in
+    let same = subst Q same_id (subst P at (isolated_message records n i o content short)) in
+    let F : Result Sealed Refusal → Outcome Sealed = λ r. behind_reading f.reading (or_refusal r (λ s. puts f.putting (sent_record s) s)) in
+    record { reply_is = ap (λ r. unnumbered_reply (made (F r).result)) same; put_is = ap (λ r. (F r).put) same }
+own_call node id records f (Puts o) e short = record { reply_is = refl; put_is = refl }
+
+received-id : (r : Result Received (List ℕ)) (d : Received) → or_refused Form r ≡ Ok d → received_id r ≡ Some d.context
+received-id (Ok x) d e = cc
+received-id (Err m) d e = cc
+
+-- what is delivered is of the context that its document names
+delivered-id : (records : List Record) (node : List ℕ) (t : Tree) (y : Delivery) → first_failed records node t ≡ Ok y → received_id (received t) ≡ Some y.id
+delivered-id records node t y e =
+    bind_then _ _ y e λ d e_form e1.
+    bind_then _ _ y e1 λ u1 e_later e2.
+    bind_then _ _ y e2 λ x e_open e3.
+    bind_then _ _ y e3 λ k e_keys e4.
+    bind_then _ _ y e4 λ u4 e_cipher e5.
+    bind_then _ _ y e5 λ plain e_plain e6.
+    bind_then _ _ y e6 λ u6 e_replay e7.
+    bind_then _ _ y e7 λ values e_values e8.
+    bind_then _ _ y e8 λ holed e_holed e9.
+    bind_then _ _ y e9 λ content e_content e10.
+    bind_then _ _ y e10 λ u10 e_clear e11.
+    bind_then _ _ y e11 λ u11 e_limit e12.
+    let P : Delivery → Type 0 = λ y. received_id (received t) ≡ Some y.id in
+    subst P (ok_same {E = Refusal} _ y e12) (received-id (received t) d e_form)
+
+-- what a call puts is of the context that the call is of
+is_id-at : (o : Option ℕ) (i j : ℕ) → o ≡ Some i → is_id o j ≡ (i == j)
+is_id-at o i j e = rw e
+
+put_names : (node : List ℕ) (id : ℕ) (records : List Record) (f : Choice) (call : Call) (r : Record) → put_of records f call ≡ Some r → is_of node id r ≡ concerns node id call
+put_names node id records f (Deliver n t) r e =
+    let p = puts-some f.reading (first_failed records n t) f.putting delivered_record r e in
+    let new = first_failed-ok records n t p.value p.is in
+    let P : Record → Type 0 = λ z. is_of node id z ≡ concerns node id (Deliver n t) in
+    subst P p.item_is (rw (new.node_is, is_id-at (received_id (received t)) p.value.id id (delivered-id records n t p.value p.is)))
+put_names node id records f (Send n i o content) r e =
+    let p = puts-some f.reading (protected records n i o content) f.putting sent_record r e in
+    let next = protected-ok records n i o content p.value p.is in
+    let P : Record → Type 0 = λ z. is_of node id z ≡ concerns node id (Send n i o content) in
+    subst P p.item_is (rw (next.node_is, next.id_is))
+put_names node id records f (Puts o) r e = rw e
+
+-- the context's records after a call
+own_after : (node : List ℕ) (id : ℕ) (records : List Record) (f : Choice) (call : Call) → concerns node id call ≡ true → length records < record_limit
+    → own node id (after records f call) ≡ after (own node id records) f call
+own_after node id records f call e short = stepped (put_of records f call) refl
+  where
+    stepped : (o : Option Record) → put_of records f call ≡ o → own node id (with_put records o) ≡ with_put (own node id records) (put_of (own node id records) f call)
+    stepped None h = ap (with_put (own node id records)) (sym h ∙ (own_call node id records f call e short).put_is)
+    stepped (Some r) h =
+        own-append node id records (r ∷ []) ∙ (ap (λ rs. own node id records ++ rs) (own-one node id r (put_names node id records f call r h ∙ e))
+        ∙ ap (with_put (own node id records)) (sym h ∙ (own_call node id records f call e short).put_is))
+
+other_after : (node : List ℕ) (id : ℕ) (records : List Record) (f : Choice) (call : Call) → concerns node id call ≡ false → own node id (after records f call) ≡ own node id records
+other_after node id records f call e = stepped (put_of records f call) refl
+  where
+    stepped : (o : Option Record) → put_of records f call ≡ o → own node id (with_put records o) ≡ own node id records
+    stepped None h = refl
+    stepped (Some r) h = own-append_other node id records r (put_names node id records f call r h ∙ e)
+
+length_after : (records : List Record) (o : Option Record) → length (with_put records o) ≤ length records + 1
+length_after records None = omega arith
+length_after records (Some r) = omega (arith, length-append records (r ∷ []))
+
+pub isolated : (node : List ℕ) (id : ℕ) (records : List Record) (events : List (Choice × Call)) → length records + length events ≤ record_limit
+    → map unnumbered_reply (own_replies node id records events) ≡ map unnumbered_reply (replies (own node id records) (own_events node id events))
+isolated node id records [] short = refl
+isolated node id records (e ∷ es) short =
+    stepped (concerns node id e.1) refl (isolated node id (after records e.0 e.1) es (omega (arith, length_after records (put_of records e.0 e.1))))
+  where
+    stepped : (b : Bool) → concerns node id e.1 ≡ b
+        → map unnumbered_reply (own_replies node id (after records e.0 e.1) es) ≡ map unnumbered_reply (replies (own node id (after records e.0 e.1)) (own_events node id es))
+        → map unnumbered_reply (cond b (reply_of records e.0 e.1 ∷ own_replies node id (after records e.0 e.1) es) (own_replies node id (after records e.0 e.1) es))
+        ≡ map unnumbered_reply (replies (own node id records) (cond b (e ∷ own_events node id es) (own_events node id es)))
+    stepped true h ih =
+        let room : length records < record_limit = omega arith in
+        ap₂ (λ (r : Reply) (rs : List Reply). r ∷ rs) (own_call node id records e.0 e.1 h room).reply_is
+        (ih ∙ ap (λ (rs : List Record). map unnumbered_reply (replies rs (own_events node id es))) (own_after node id records e.0 e.1 h room))
+    stepped false h ih = ih ∙ ap (λ (rs : List Record). map unnumbered_reply (replies rs (own_events node id es))) (other_after node id records e.0 e.1 h)
