@@ -1,13 +1,13 @@
 -- A context's calls go by its own records alone.
-use Rattle.std.proofs.Common.{◌≡◌, ℕ, ◌+◌, ◌<◌, ◌≤◌, Bool, true, false, List, [], ◌∷◌, ◌++◌, length, Option, Some, None, is_some, Result, Ok, Err, refl, sym, ap, ap₂, ◌∙◌, subst, cond, arith, length-append, map}
-use Rattle.std.specs.Prelude.{bytes_eq, nat_le, filter, ◌==◌}
-use Rattle.std.specs.List.{list_any}
+use Rattle.std.proofs.Common.{◌≡◌, suc, ℕ, ◌&&◌, ◌+◌, ◌<◌, ◌≤◌, Bool, true, false, List, [], ◌∷◌, ◌++◌, length, Option, Some, None, is_some, Result, Ok, Err, refl, sym, ap, ap₂, ◌∙◌, subst, cond, arith, length-append, map}
+use Rattle.std.specs.Prelude.{bytes_eq, nat_le, filter, find, slice_get, ◌==◌}
+use Rattle.std.specs.List.{list_any, position_from}
 use Rattle.std.proofs.lemmas.Bool.{lt-leb, eqb-true, and_parts}
 use Rattle.std.proofs.lemmas.Slice.Eq.{bytes_eq-Decides}
 use Rattle.std.proofs.lemmas.List.Sums.{length-filter, count_by-le-length}
 use Rattle.spec_documents.specs.Tree.{Tree}
 use Rattle.spec_messages.specs.Message.{Message, Kind, wanted}
-use Rattle.spec_protocol.specs.Records.{Record, Context, is_of, own, is_closed, opened_context, first_of, record_limit, open_context, keys, keys_behind, mapping_delivered, answered, next_seq, delivered_at, was_delivered}
+use Rattle.spec_protocol.specs.Records.{Record, Context, is_of, own, is_closed, opened_context, first_of, record_limit, open_context, keys, keys_behind, mapping_delivered, answered, next_seq, delivered_at, was_delivered, is_delivery}
 use Rattle.spec_protocol.proofs.RecordLemmas.{own-append, own-append_other, delivered_at-is_some}
 use Rattle.spec_exchange.specs.Chain.{◌>>=◌, unless, none_of, or_refused}
 use Rattle.spec_exchange.specs.Received.{Received, received}
@@ -258,3 +258,39 @@ isolated node id records (e ∷ es) short =
         ap₂ (λ (r : Reply) (rs : List Reply). r ∷ rs) (own_call node id records e.0 e.1 h room).reply_is
         (ih ∙ ap (λ (rs : List Record). map unnumbered_reply (replies rs (own_events node id es))) (own_after node id records e.0 e.1 h room))
     stepped false h ih = ih ∙ ap (λ (rs : List Record). map unnumbered_reply (replies rs (own_events node id es))) (other_after node id records e.0 e.1 h)
+
+-- ---- the number of a delivery
+
+-- the place that is found is that of the first that passes
+pub record IsPlace {X : Type 0} (p : X → Bool) (k n : ℕ) (xs : List X) : Type 0 where
+  pub place : ℕ
+  pub is : n ≡ k + place
+  pub get : slice_get xs place ≡ find p xs
+
+pub position_from-is : {X : Type 0} (p : X → Bool) (k n : ℕ) (xs : List X) → position_from p k xs ≡ Some n → IsPlace p k n xs
+position_from-is p k n [] e = cc
+position_from-is {X} p k n (x ∷ xs) e =
+    let r = found (p x) e (λ z. position_from-is p (k + 1) n xs z) in record { place = r.0; is = r.1; get = r.2 }
+  where
+    found : (b : Bool) → cond b (Some k) (position_from p (k + 1) xs) ≡ Some n → (position_from p (k + 1) xs ≡ Some n → IsPlace p (k + 1) n xs)
+        → (place : ℕ) × (n ≡ k + place) × (slice_get (x ∷ xs) place ≡ cond b (Some x) (find p xs))
+    found true h ih = (0, (let same : k ≡ n = cc in omega arith), refl)
+    found false h ih = let r = ih h in (suc r.place, (let e = r.is in omega arith), r.get)
+
+find-filter : {X : Type 0} (p q : X → Bool) (xs : List X) → find (λ x. q x && p x) (filter q xs) ≡ find (λ x. q x && p x) xs
+find-filter p q [] = refl
+find-filter {X} p q (x ∷ xs) = passed (q x) refl (find-filter p q xs)
+  where
+    passed : (b : Bool) → q x ≡ b → find (λ x. q x && p x) (filter q xs) ≡ find (λ x. q x && p x) xs → find (λ x. q x && p x) (cond b (x ∷ filter q xs) (filter q xs)) ≡ cond (b && p x) (Some x) (find (λ x. q x && p x) xs)
+    passed true e ih = rw e (ap (λ z. cond (p x) (Some x) z) ih)
+    passed false e ih = ih
+
+-- the number in a replay's refusal names one record, in the whole list and among the context's own
+pub same_delivery : (node : List ℕ) (id : ℕ) (kind : Kind) (message k l : ℕ) (records : List Record) → delivered_at node id kind message records ≡ Some k → delivered_at node id kind message (own node id records) ≡ Some l
+    → slice_get records k ≡ slice_get (own node id records) l
+same_delivery node id kind message k l records e f =
+    let a = position_from-is (λ r. is_of node id r && is_delivery kind message r) 0 k records e in
+    let b = position_from-is (λ r. is_of node id r && is_delivery kind message r) 0 l (own node id records) f in
+    let at : k ≡ a.place = omega (arith, a.is) in
+    let there : l ≡ b.place = omega (arith, b.is) in
+    ap (slice_get records) at ∙ (a.get ∙ (sym (find-filter (is_delivery kind message) (is_of node id) records) ∙ (sym b.get ∙ ap (slice_get (own node id records)) (sym there))))

@@ -1,8 +1,8 @@
 //! Laws over runs of calls, whatever the keeper does in each.
 
-ghost use Rattle.std.specs.Prelude.{◌≡◌, ◌≤◌, ◌+◌, ℕ, List, length, map, true, count_by};
+ghost use Rattle.std.specs.Prelude.{◌≡◌, ◌≤◌, ◌+◌, ℕ, List, length, map, true, Some, count_by, slice_get};
 ghost use Rattle.spec_messages.specs.Message.{Kind};
-ghost use Rattle.spec_protocol.specs.Records.{Record, record_limit, own, was_delivered, was_sent};
+ghost use Rattle.spec_protocol.specs.Records.{Record, record_limit, own, delivered_at, was_delivered, was_sent};
 ghost use Rattle.spec_exchange.specs.Outside.{Choice};
 ghost use Rattle.spec_exchange.specs.Isolation.{unnumbered_reply, own_events, own_replies};
 ghost use Rattle.spec_exchange.specs.Runs.{Call, replies, delivers, numbers};
@@ -22,4 +22,9 @@ pub fn numbered_once()
 /// A context is told what it would be told if no other context were there, but for the number of a replayed message's record, while the limit of records is not met.
 pub fn contexts_apart()
     ensures { (node : List ℕ) (id : ℕ) (records : List Record) (events : List (Choice × Call)) → length records + length events ≤ record_limit → map unnumbered_reply (own_replies node id records events) ≡ map unnumbered_reply (replies (own node id records) (own_events node id events)) }
+{}
+
+/// The number with which a replay is refused is that of one record, among all and among the context's own.
+pub fn replays_name_one_record()
+    ensures { (node : List ℕ) (id : ℕ) (kind : Kind) (message k l : ℕ) (records : List Record) → delivered_at node id kind message records ≡ Some k → delivered_at node id kind message (own node id records) ≡ Some l → slice_get records k ≡ slice_get (own node id records) l }
 {}
