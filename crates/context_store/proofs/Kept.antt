@@ -1,10 +1,10 @@
 -- Records that are kept in step with those of a keeper.
-use Rattle.std.proofs.Common.{◌≡◌, ◌⊎◌, ℕ, ◌+◌, ◌≤◌, List, [], ◌∷◌, ◌++◌, take, slice_get, Option, Some, None, IfSome, Ok, sym, ◌∙◌, subst, arith, inl, inr}
+use Rattle.std.proofs.Common.{◌≡◌, ◌⊎◌, ℕ, zero, suc, ◌+◌, ◌<◌, ◌≤◌, ⊎_elim, length, List, [], ◌∷◌, ◌++◌, take, slice_get, Option, Some, None, IfSome, Ok, sym, ◌∙◌, subst, arith, inl, inr}
 use Rattle.n32_values.proofs.Trees.{take_at}
 use Rattle.n32_outside.specs.Contents.{Stays, Gains, Loads}
 use Rattle.spec_protocol.specs.Records.{Record, record_limit}
 use Rattle.session_records.specs.Reading.{ReadsRecord}
-use Rattle.context_store.specs.Stores.{AreRecords, Holds, IsNoRecord, IsFirstBad, NamesBad, RefusesText}
+use Rattle.context_store.specs.Stores.{AreRecords, Holds, HasNoBad, IsNoRecord, IsFirstBad, NamesBad, RefusesText}
 use Rattle.context_store.specs.declared.faults.OpenFault.{OpenFault}
 use Rattle.context_store.specs.declared.faults.OpenFault.TheVariants.{Journal, Keeper, NoMemory}
 
@@ -54,3 +54,29 @@ bad_here (Some bs) now k rs found b (Journal j) front few stays loads is h =
     })
 bad_here held now k rs found b Keeper front few stays loads is h = tt
 bad_here held now k rs found b NoMemory front few stays loads is h = tt
+
+-- ---- no bad text
+
+record IsAt (rs : List Record) (b : List ℕ) (k : ℕ) : Type 0 where
+  pub found : Record
+  pub reads : ReadsRecord b found
+  pub within : k < length rs
+
+is_at : (bs : List (List ℕ)) (rs : List Record) (k : ℕ) (b : List ℕ) → AreRecords bs rs → slice_get bs k ≡ Some b → IsAt rs b k
+is_at [] rs k b all e = cc
+is_at (c ∷ bs) [] k b all e = absurd all
+is_at (c ∷ bs) (r ∷ rs) zero b all e =
+    let same : c ≡ b = cc in
+    record { found = r; reads = subst (λ d. ReadsRecord d r) same all.0; within = omega arith }
+is_at (c ∷ bs) (r ∷ rs) (suc k) b all e =
+    let later = is_at bs rs k b all.1 e in
+    record { found = later.found; reads = later.reads; within = omega (arith, later.within) }
+
+none_bad : (bs : List (List ℕ)) (rs : List Record) → AreRecords bs rs → length rs ≤ record_limit → (k : ℕ) → IsFirstBad bs k → ⊥
+none_bad bs rs all few k bad =
+    let here = is_at bs rs k bad.text all bad.there in
+    ⊎_elim (λ none. none here.found here.reads) (λ limit. omega (arith, here.within, few, limit)) bad.bad
+
+pub has_no_bad : (held : Option (List (List ℕ))) (rs : List Record) → Holds held rs → length rs ≤ record_limit → HasNoBad held
+has_no_bad None rs holds few = tt
+has_no_bad (Some bs) rs holds few = none_bad bs rs holds few

@@ -36,6 +36,10 @@ pub record IsFirstBad (texts : List (List ℕ)) (k : ℕ) : Type 0 where
   pub before : List Record
   pub good : AreRecords (take k texts) before
 
+-- no text that is told is bad
+abbrev pub HasNoBad : Option (List (List ℕ)) → Type 0
+HasNoBad held = IfSome held (λ texts. (k : ℕ) → IsFirstBad texts k → ⊥)
+
 -- a bad record is named only where it is the first
 abbrev pub NamesBad : Option (List (List ℕ)) → OpenFault → Type 0
 NamesBad held (Journal k) = IfSome held (λ texts. IsFirstBad texts k)

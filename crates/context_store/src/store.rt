@@ -7,7 +7,7 @@ ghost use Rattle.spec_protocol.specs.RecordDocument.{is_well_named};
 ghost use Rattle.http_message.specs.Reading.{kind_view};
 ghost use Rattle.session_records.specs.View.{context_view, key_set_view, record_view};
 ghost use Rattle.session_records.specs.Reading.{written};
-ghost use Rattle.context_store.specs.Stores.{IsConsistent, NamesBad};
+ghost use Rattle.context_store.specs.Stores.{HasNoBad, IsConsistent, NamesBad};
 
 use crate::faults::{AddFault, OpenFault};
 use crate::loading::read_records;
@@ -64,6 +64,7 @@ pub fn open_store<K: Keeper>(alloc: Global, keeper: &mut K) -> Result<Store, Ope
     ensures consistent { IfOk result (λ store. IsConsistent (K.held keeper.new) store) }
     ensures fresh { IfOk result (λ store. store.fresh ≡ true) }
     ensures few { IfOk result (λ store. length store.records ≤ spec.record_limit) }
+    ensures sound { IfOk result (λ _. HasNoBad (K.held keeper.new)) }
     ensures same { Stays (K.held keeper.old) (K.held keeper.new) }
     ensures journal { IfErr result (NamesBad (K.held keeper.old)) }
     ensures later { K.faults keeper.old ≤ K.faults keeper.new }
@@ -84,6 +85,7 @@ impl Store {
         ensures consistent { IsConsistent (K.held keeper.new) self.new }
         ensures fresh { OnOk result (self.new.fresh ≡ true) }
         ensures few { OnOk result (length self.new.records ≤ spec.record_limit) }
+        ensures sound { OnOk result (HasNoBad (K.held keeper.new)) }
         ensures idle { self.old.fresh ≡ true → (result ≡ Ok tt) × (self.new ≡ self.old) × (keeper.new ≡ keeper.old) }
         ensures stale { OnErr result (self.new.fresh ≡ false) }
         ensures kept { OnErr result (self.new.records ≡ self.old.records) }
