@@ -1,0 +1,4 @@
+pub mod StepLemmas
+pub mod FaultLemmas
+pub mod OutputLemmas
+pub mod StateLemmas

@@ -1,0 +1,127 @@
+-- What a step leaves of the state.
+use Rattle.std.proofs.Common.{◌≡◌, ℕ, suc, ◌+◌, true, false, List, [], ◌∷◌, ◌++◌, length, pos, Option, Some, None, Result, Ok, Err, refl, ap, ◌∙◌, arith}
+use Rattle.std.specs.Prelude.{slice_get}
+use Rattle.spec_documents.specs.Tree.{Tree}
+use Rattle.spec_protocol.specs.Records.{Record}
+use Rattle.spec_exchange.specs.Refusals as exchange
+use Rattle.spec_exchange.specs.Outside.{Choice, Reading, Read, ReadFails, BadRecord, Putting, Kept, Lost, KeptUntold, Outcome, behind_reading, or_refusal}
+use Rattle.spec_exchange.specs.Outside as outside
+use Rattle.spec_exchange.specs.FirstFailed.{Delivery, first_failed}
+use Rattle.spec_exchange.specs.Calls.{Sealed, Asks, delivered_record, sent_record, accepted, sends, protected}
+use Rattle.spec_script.specs.Refusals.{Refusal, OfCall}
+use Rattle.spec_script.specs.Events.{line_event}
+use Rattle.spec_script.specs.Steps.{State, OnWire, Sends, Refuses, Step, after, refuses, puts, sends_sealed, delivers, next_number, wire_at, line_step}
+use Rattle.spec_script.specs.Output.{is_keeper_refusal}
+use Rattle.spec_script.proofs.StepLemmas.{line_covered}
+
+-- ---- refusals
+
+pub record Keeps (s : State) (r : Step) : Type 0 where
+  pub sites : (e : Refusal) → r.answer ≡ Refuses e → r.sites ≡ s.sites
+  pub sent : (e : Refusal) → r.answer ≡ Refuses e → r.sent ≡ None
+  pub put : (e : Refusal) → r.answer ≡ Refuses e → is_keeper_refusal e ≡ false → r.put ≡ None
+
+refusal_keeps : (s : State) (d : Refusal) → Keeps s (refuses s d)
+refusal_keeps s d = record { sites = λ e h. refl; sent = λ e h. refl; put = λ e h k. refl }
+
+-- a refusal that is the keeper's and isn't
+other_than_keeper : {P : Type 0} (e : Refusal) → OfCall exchange.Keeper ≡ e → is_keeper_refusal e ≡ false → P
+other_than_keeper e same k = let told : true ≡ false = ap is_keeper_refusal same ∙ k in cc
+
+put_keeps : (s : State) (p : Putting) (name : List ℕ) (r : Record) → Keeps s (puts s p name r)
+put_keeps s Kept name r = record { sites = λ e h. refl; sent = λ e h. refl; put = λ e h k. cc }
+put_keeps s Lost name r = refusal_keeps s _
+put_keeps s KeptUntold name r = record { sites = λ e h. refl; sent = λ e h. refl; put = λ e h k. let same : OfCall exchange.Keeper ≡ e = cc in other_than_keeper e same k }
+
+-- a call that answers a refusal other than the keeper's puts nothing
+pub record Clean {T : Type 0} (o : Outcome T) : Type 0 where
+  pub is : (e : exchange.Refusal) → o.result ≡ Err e → is_keeper_refusal (OfCall e) ≡ false → o.put ≡ None
+
+clean_refused : {T : Type 0} (d : exchange.Refusal) → Clean (outside.refused {T = T} d)
+clean_refused d = record { is = λ e h k. refl }
+
+clean_puts : {T : Type 0} (p : Putting) (r : Record) (x : T) → Clean (outside.puts p r x)
+clean_puts Kept r x = record { is = λ e h k. cc }
+clean_puts Lost r x = record { is = λ e h k. refl }
+clean_puts KeptUntold r x = record { is = λ e h k. let same : OfCall exchange.Keeper ≡ OfCall e = cc in other_than_keeper (OfCall e) same k }
+
+clean_chain : {X : Type 0} (p : Putting) (item : X → Record) (r : Result X exchange.Refusal) → Clean (or_refusal r (λ y. outside.puts p (item y) y))
+clean_chain p item (Ok x) = clean_puts p (item x) x
+clean_chain p item (Err d) = clean_refused d
+
+clean_read : {T : Type 0} (reading : Reading) (o : Outcome T) → Clean o → Clean (behind_reading reading o)
+clean_read Read o h = h
+clean_read ReadFails o h = clean_refused _
+clean_read (BadRecord k) o h = clean_refused _
+
+-- the refusal of a call puts nothing
+abbrev PutsNone : {T : Type 0} → Result T exchange.Refusal → Option Record → Type 0
+PutsNone r p = (e : exchange.Refusal) → r ≡ Err e → is_keeper_refusal (OfCall e) ≡ false → p ≡ None
+
+sealed_keeps : (s : State) (r : Result Sealed exchange.Refusal) (p : Option Record) → PutsNone r p → Keeps s (sends_sealed s (record { result = r; put = p }))
+sealed_keeps s (Ok x) p c = record { sites = λ e h. refl; sent = λ e h. cc; put = λ e h k. cc }
+sealed_keeps s (Err d) p c = record { sites = λ e h. refl; sent = λ e h. refl; put = λ e h k. c d refl (let same : OfCall d ≡ e = cc in ap is_keeper_refusal same ∙ k) }
+
+delivery_keeps : (s : State) (r : Result Delivery exchange.Refusal) (p : Option Record) → PutsNone r p → Keeps s (delivers s (record { result = r; put = p }))
+delivery_keeps s (Ok x) p c = record { sites = λ e h. refl; sent = λ e h. refl; put = λ e h k. cc }
+delivery_keeps s (Err d) p c = record { sites = λ e h. refl; sent = λ e h. refl; put = λ e h k. c d refl (let same : OfCall d ≡ e = cc in ap is_keeper_refusal same ∙ k) }
+
+pub line_keeps : (s : State) (f : Choice) (line : List ℕ) → Keeps s (line_step s f line)
+line_keeps s f line = line_covered (λ r. Keeps s r) s f (record {
+  refused = refusal_keeps s;
+  done = λ name. record { sites = λ e h. refl; sent = λ e h. refl; put = λ e h k. refl };
+  node = λ n plmn. record { sites = λ e h. cc; sent = λ e h. refl; put = λ e h k. refl };
+  put = put_keeps s f.putting;
+  injected = λ t. record { sites = λ e h. refl; sent = λ e h. cc; put = λ e h k. refl };
+  sealed = λ n i m. sealed_keeps s (sends f s.records n i Asks m).result (sends f s.records n i Asks m).put (clean_read f.reading _ (clean_chain f.putting sent_record (protected s.records n i Asks m))).is;
+  came = λ n t. delivery_keeps s (accepted f s.records n t).result (accepted f s.records n t).put (clean_read f.reading _ (clean_chain f.putting delivered_record (first_failed s.records n t))).is;
+}) (line_event line)
+
+pub unchanged : (s : State) (r : Step) → r.sites ≡ s.sites → r.sent ≡ None → r.put ≡ None → after s r ≡ s
+unchanged s r a b c = rw (a, b, c) refl
+
+pub unsent : (s : State) (r : Step) → r.sent ≡ None → (after s r).wire ≡ s.wire
+unsent s r e = rw e refl
+
+-- ---- the wire
+
+at_end : (ts : List Tree) (t : Tree) → slice_get (ts ++ t ∷ []) (length ts) ≡ Some t
+at_end [] t = refl
+at_end (u ∷ us) t = at_end us t
+
+pub numbered : (s : State) (t : Tree) → wire_at (s.wire ++ t ∷ []) (pos (next_number s)) ≡ Some t
+numbered s t = ap (λ (n : ℕ). wire_at (s.wire ++ t ∷ []) (pos n)) (let e : length s.wire + 1 ≡ suc (length s.wire) = omega arith in e) ∙ at_end s.wire t
+
+pub record Wires (s : State) (r : Step) : Type 0 where
+  pub sealed : (x : Sealed) (k : ℕ) → r.answer ≡ Sends x k → (r.sent ≡ Some x.document) × (k ≡ next_number s)
+  pub injected : (k : ℕ) → r.answer ≡ OnWire k → (t : Tree) × (r.sent ≡ Some t) × (k ≡ next_number s)
+
+put_wires : (s : State) (p : Putting) (name : List ℕ) (r : Record) → Wires s (puts s p name r)
+put_wires s Kept name r = record { sealed = λ x k e. cc; injected = λ k e. cc }
+put_wires s Lost name r = record { sealed = λ x k e. cc; injected = λ k e. cc }
+put_wires s KeptUntold name r = record { sealed = λ x k e. cc; injected = λ k e. cc }
+
+sealed_wires : (s : State) (r : Result Sealed exchange.Refusal) (p : Option Record) → Wires s (sends_sealed s (record { result = r; put = p }))
+sealed_wires s (Ok y) p = record { sealed = λ x k e. (cc, cc); injected = λ k e. cc }
+sealed_wires s (Err d) p = record { sealed = λ x k e. cc; injected = λ k e. cc }
+
+delivery_wires : (s : State) (r : Result Delivery exchange.Refusal) (p : Option Record) → Wires s (delivers s (record { result = r; put = p }))
+delivery_wires s (Ok y) p = record { sealed = λ x k e. cc; injected = λ k e. cc }
+delivery_wires s (Err d) p = record { sealed = λ x k e. cc; injected = λ k e. cc }
+
+pub line_wires : (s : State) (f : Choice) (line : List ℕ) → Wires s (line_step s f line)
+line_wires s f line = line_covered (λ r. Wires s r) s f (record {
+  refused = λ d. record { sealed = λ x k e. cc; injected = λ k e. cc };
+  done = λ name. record { sealed = λ x k e. cc; injected = λ k e. cc };
+  node = λ n plmn. record { sealed = λ x k e. cc; injected = λ k e. cc };
+  put = put_wires s f.putting;
+  injected = λ t. record { sealed = λ x k e. cc; injected = λ k e. (t, refl, cc) };
+  sealed = λ n i m. sealed_wires s (sends f s.records n i Asks m).result (sends f s.records n i Asks m).put;
+  came = λ n t. delivery_wires s (accepted f s.records n t).result (accepted f s.records n t).put;
+}) (line_event line)
+
+pub on_wire : (s : State) (r : Step) (t : Tree) → r.sent ≡ Some t → (after s r).wire ≡ s.wire ++ t ∷ []
+on_wire s r t e = rw e refl
+
+pub found_on_wire : (s : State) (r : Step) (t : Tree) (k : ℕ) → r.sent ≡ Some t → k ≡ next_number s → wire_at (after s r).wire (pos k) ≡ Some t
+found_on_wire s r t k e at = ap (λ (ts : List Tree). wire_at ts (pos k)) (on_wire s r t e) ∙ (ap (λ (n : ℕ). wire_at (s.wire ++ t ∷ []) (pos n)) at ∙ numbered s t)

@@ -1,0 +1,23 @@
+use Rattle.std.proofs.Common.{refl}
+use Rattle.spec_exchange.specs.Chain as chain
+use Rattle.spec_script.proofs.rows.message_rows.Goals as goal
+
+pub returns-clause-response : goal.returns-clause-response
+unfolding chain.◌>>=◌
+returns-clause-response c = refl
+
+pub returns-clause-message : goal.returns-clause-message
+unfolding chain.◌>>=◌
+returns-clause-message c = refl
+
+pub returns-clause-deep : goal.returns-clause-deep
+unfolding chain.◌>>=◌
+returns-clause-deep c = refl
+
+pub returns-clause-answers : goal.returns-clause-answers
+unfolding chain.◌>>=◌
+returns-clause-answers c = refl
+
+pub returns-clause-context : goal.returns-clause-context
+unfolding chain.◌>>=◌
+returns-clause-context c = refl

@@ -1,0 +1,6 @@
+use Rattle.spec_script.specs.Events.{line_event}
+use Rattle.spec_script.proofs.FaultLemmas.{line_determined}
+use Rattle.spec_script.proofs.runs.answers_determined.Goals as goal
+
+pub returns : goal.returns
+returns c s f line e = line_determined s f (line_event line) e

@@ -1,0 +1,90 @@
+-- Events and states of worked examples.
+use Rattle.std.specs.Prelude.{ℕ, zero, suc, List, [], ◌∷◌, ◌++◌, codes}
+use Rattle.spec_documents.specs.Tree.{Tree, null, words, items, members, object, trees}
+use Rattle.spec_protocol.specs.Records.{Record, A128Gcm, Opened, Keyed}
+use Rattle.spec_protocol.specs.RecordRows.{context_with, keys_from}
+use Rattle.spec_exchange.specs.Outside.{Choice, Read, BadRecord, Kept, KeptUntold}
+use Rattle.spec_script.specs.Events.{HandedContext}
+use Rattle.spec_script.specs.Steps.{State}
+
+-- ---- documents
+
+abbrev pub of_members : List (List ℕ × Tree) → Tree
+of_members ms = members (object ms)
+
+abbrev pub named : List ℕ → List (List ℕ × Tree) → Tree
+named name ms = of_members ((codes "do", words name) ∷ ms)
+
+abbrev pub node_fields : List (List ℕ × Tree)
+node_fields = (codes "node", words (codes "A")) ∷ (codes "plmn", words (codes "00101")) ∷ []
+
+-- a policy without mappings
+abbrev pub policy_document : Tree
+policy_document = of_members ((codes "apiIeMappingList", items (trees [])) ∷ [])
+
+abbrev pub context_fields : List (List ℕ × Tree)
+context_fields =
+    (codes "node", words (codes "A"))
+    ∷ (codes "id", words (codes "00000000000000a1"))
+    ∷ (codes "peer_node", words (codes "B"))
+    ∷ (codes "peer", words (codes "00000000000000b1"))
+    ∷ (codes "plmn", words (codes "00102"))
+    ∷ (codes "suite", words (codes "A128GCM"))
+    ∷ (codes "policy", policy_document)
+    ∷ (codes "own_ipx", items (trees (words (codes "ipx-a") ∷ []))) ∷ []
+
+abbrev pub peer_ipx_field : List ℕ × Tree
+peer_ipx_field = (codes "peer_ipx", items (trees []))
+
+abbrev pub handed_with : Tree → HandedContext
+handed_with policy = record { node = codes "A"; id = 161; peer_node = codes "B"; peer = 177; plmn = codes "00102"; suite = A128Gcm; policy = policy; own_ipx = codes "ipx-a" ∷ []; peer_ipx = [] }
+
+abbrev pub one_key : List ℕ → Tree
+one_key digits = of_members ((codes "key", words digits) ∷ (codes "salt", words (codes "A0a1a2a3a4a5a6a7")) ∷ [])
+
+abbrev pub key_digits : List ℕ
+key_digits = codes "000102030405060708090A0B0c0d0e0f"
+
+abbrev pub key_pair : List ℕ → Tree
+key_pair digits = of_members ((codes "request", one_key key_digits) ∷ (codes "response", one_key digits) ∷ [])
+
+abbrev pub keys_fields : List ℕ → List (List ℕ × Tree)
+keys_fields digits = (codes "node", words (codes "A")) ∷ (codes "id", words (codes "00000000000000A1")) ∷ (codes "receive", key_pair key_digits) ∷ (codes "send", key_pair digits) ∷ []
+
+-- ---- messages
+
+abbrev pub request_document : List (List ℕ × Tree) → Tree
+request_document more = of_members ((
+  codes "requestLine",
+  of_members (
+      (codes "method", words (codes "GET"))
+      ∷ (codes "scheme", words (codes "https"))
+      ∷ (codes "authority", words (codes "udm.example"))
+      ∷ (codes "path", words (codes "/nudm-sdm"))
+      ∷ (codes "protocolVersion", words (codes "HTTP/2")) ∷ []),
+) ∷ more)
+
+abbrev pub nested : ℕ → Tree
+nested zero = null
+nested (suc n) = items (trees (nested n ∷ []))
+
+-- ---- states: the nodes A and B
+
+abbrev pub holding : List Record → State
+holding records = record {
+  sites = record { node = codes "A"; plmn = codes "00101" } ∷ record { node = codes "B"; plmn = codes "00102" } ∷ [];
+  wire = null ∷ [];
+  records = records;
+}
+
+abbrev pub opened : List Record
+opened = Opened (context_with (codes "B")) ∷ []
+
+abbrev pub keyed : List Record
+keyed = opened ++ Keyed (codes "A") 161 (keys_from 3) ∷ []
+
+abbrev pub untold : Choice
+untold = record { reading = Read; putting = KeptUntold }
+
+abbrev pub bad_record : Choice
+bad_record = record { reading = BadRecord 2; putting = Kept }

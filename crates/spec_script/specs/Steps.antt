@@ -1,0 +1,206 @@
+-- What the events of a script come to, in a state and under the choices of the keeper (this project's own).
+use Rattle.std.specs.Prelude.{ℕ, zero, suc, ◌+◌, ℤ, pos, negsuc, Bool, false, not, is_some, nat_le, nat_lt, List, [], ◌∷◌, ◌++◌, length, Option, Some, None, Result, Ok, Err, if◌then◌else◌, bytes_eq, slice_get, codes}
+use Rattle.spec_documents.specs.Tree.{Tree, null, truth, whole, words, items, members, get_member}
+use Rattle.spec_messages.specs.Message.{Message, message_of, body_depth, wanted}
+use Rattle.spec_messages.specs.Policy.{Policy}
+use Rattle.spec_messages.specs.PolicyDocument.{policy_of}
+use Rattle.spec_protocol.specs.Records.{KeySet, Context, Record, Opened, Keyed, record_limit, keys_fit, used, open_context, keys}
+use Rattle.spec_exchange.specs.Chain.{◌>>=◌, unless, or_refused}
+use Rattle.spec_exchange.specs.Refusals.{Beyond, many_records, ContextNotFound, Keeper, Journal, NotBuilt}
+use Rattle.spec_exchange.specs.Refusals as exchange
+use Rattle.spec_exchange.specs.Outside.{Choice, Reading, Read, ReadFails, BadRecord, Putting, Kept, Lost, KeptUntold, Outcome, with_put}
+use Rattle.spec_exchange.specs.FirstFailed.{Delivery}
+use Rattle.spec_exchange.specs.Calls.{Sealed, Asks, accepted, sends}
+use Rattle.spec_script.specs.Refusals.{Refusal, BadEvent, NodeUnknown, NodeExists, WireUnknown, BadMessage, DeepBody, BadPolicy, ContextUsed, KeysTwice, OfCall}
+use Rattle.spec_script.specs.Events.{HandedContext, Event, AddNode, AddContext, AddKeys, Send, Inject, Deliver, Restart, line_event}
+
+-- a node, and the PLMN id of its network
+pub record Site : Type 0 where
+  pub node : List ℕ
+  pub plmn : List ℕ
+
+-- the nodes, the documents on the wire, and the records that are held
+pub record State : Type 0 where
+  pub sites : List Site
+  pub wire : List Tree
+  pub records : List Record
+
+pub data Answer : Type 0 where
+  -- the event of that name is done
+  Fine : (name : List ℕ) → Answer
+  -- the document has this number on the wire
+  OnWire : (number : ℕ) → Answer
+  -- the sealed document, which has this number on the wire
+  Sends : (sealed : Sealed) (number : ℕ) → Answer
+  Delivers : (delivery : Delivery) → Answer
+  Refuses : (refusal : Refusal) → Answer
+
+-- the answer, the record that is held more, the document that goes last on the wire, and the nodes
+pub record Step : Type 0 where
+  pub answer : Answer
+  pub put : Option Record
+  pub sent : Option Tree
+  pub sites : List Site
+
+abbrev pub with_sent : List Tree → Option Tree → List Tree
+with_sent wire None = wire
+with_sent wire (Some t) = wire ++ t ∷ []
+
+abbrev pub after : State → Step → State
+after s r = record { sites = r.sites; wire = with_sent s.wire r.sent; records = with_put s.records r.put }
+
+-- ---- steps
+
+abbrev pub refuses : State → Refusal → Step
+refuses s e = record { answer = Refuses e; put = None; sent = None; sites = s.sites }
+
+abbrev pub or_refuses : State → Result Step Refusal → Step
+or_refuses s (Ok r) = r
+or_refuses s (Err e) = refuses s e
+
+abbrev pub does : State → List ℕ → Step
+does s name = record { answer = Fine name; put = None; sent = None; sites = s.sites }
+
+-- the wire counts from 1
+abbrev pub next_number : State → ℕ
+next_number s = length s.wire + 1
+
+abbrev pub injects : State → Tree → Step
+injects s t = record { answer = OnWire (next_number s); put = None; sent = Some t; sites = s.sites }
+
+abbrev pub adds_node : State → (node plmn : List ℕ) → Step
+adds_node s node plmn = record { answer = Fine (codes "node"); put = None; sent = None; sites = s.sites ++ record { node = node; plmn = plmn } ∷ [] }
+
+-- the event of that name is done once its record is put. A put that fails may have kept the record
+abbrev pub puts : State → Putting → List ℕ → Record → Step
+puts s Kept name r = record { answer = Fine name; put = Some r; sent = None; sites = s.sites }
+puts s Lost name r = refuses s (OfCall Keeper)
+puts s KeptUntold name r = record { answer = Refuses (OfCall Keeper); put = Some r; sent = None; sites = s.sites }
+
+abbrev pub sealed_answer : ℕ → Result Sealed exchange.Refusal → Answer
+sealed_answer number (Ok x) = Sends x number
+sealed_answer number (Err e) = Refuses (OfCall e)
+
+abbrev pub sealed_sent : Result Sealed exchange.Refusal → Option Tree
+sealed_sent (Ok x) = Some x.document
+sealed_sent (Err e) = None
+
+abbrev pub sends_sealed : State → Outcome Sealed → Step
+sends_sealed s o = record { answer = sealed_answer (next_number s) o.result; put = o.put; sent = sealed_sent o.result; sites = s.sites }
+
+abbrev pub delivery_answer : Result Delivery exchange.Refusal → Answer
+delivery_answer (Ok d) = Delivers d
+delivery_answer (Err e) = Refuses (OfCall e)
+
+abbrev pub delivers : State → Outcome Delivery → Step
+delivers s o = record { answer = delivery_answer o.result; put = o.put; sent = None; sites = s.sites }
+
+-- ---- checks
+
+abbrev pub plmn_at : List Site → List ℕ → Option (List ℕ)
+plmn_at [] node = None
+plmn_at (site ∷ sites) node = if bytes_eq site.node node then Some site.plmn else plmn_at sites node
+
+abbrev pub known_node : State → List ℕ → Result (List ℕ) Refusal
+known_node s node = wanted (plmn_at s.sites node) NodeUnknown
+
+abbrev pub new_node : State → List ℕ → Result (Unit {0}) Refusal
+new_node s node = unless (is_some (plmn_at s.sites node)) NodeExists
+
+-- the document of a number on the wire
+abbrev pub wire_at : List Tree → ℤ → Option Tree
+wire_at wire (pos zero) = None
+wire_at wire (pos (suc n)) = slice_get wire n
+wire_at wire (negsuc n) = None
+
+abbrev pub known_document : State → ℤ → Result Tree Refusal
+known_document s number = wanted (wire_at s.wire number) WireUnknown
+
+-- a document with a status is a response's, which isn't read yet
+abbrev pub is_of_response : Tree → Bool
+is_of_response null = false
+is_of_response (truth b) = false
+is_of_response (whole z) = false
+is_of_response (words s) = false
+is_of_response (items ts) = false
+is_of_response (members ms) = is_some (get_member (codes "statusLine") ms)
+
+-- the request to send
+abbrev pub request_to_send : Tree → Option ℕ → Result Message Refusal
+request_to_send t answers = do
+  _ ← unless (is_of_response t) (OfCall NotBuilt)
+  m ← or_refused BadMessage (message_of t)
+  _ ← unless (nat_lt 64 (body_depth m.body)) DeepBody
+  _ ← unless (is_some answers) (BadEvent (codes "answers"))
+  Ok m
+
+abbrev pub policy_to_hold : Tree → Result Policy Refusal
+policy_to_hold t = or_refused BadPolicy (policy_of t)
+
+-- a stale store is read again
+abbrev pub has_read : Reading → Result (Unit {0}) Refusal
+has_read Read = Ok tt
+has_read ReadFails = Err (OfCall Keeper)
+has_read (BadRecord k) = Err (OfCall (Journal k))
+
+abbrev pub room_for_record : State → Result (Unit {0}) Refusal
+room_for_record s = unless (nat_le record_limit (length s.records)) (OfCall (Beyond many_records))
+
+-- ---- contexts and keys that are handed in
+
+abbrev pub context_with : HandedContext → Policy → Context
+context_with x policy = record { node = x.node; id = x.id; peer_node = x.peer_node; peer = x.peer; plmn = x.plmn; suite = x.suite; policy = policy; own_ipx = x.own_ipx; peer_ipx = x.peer_ipx }
+
+abbrev pub opens : State → Choice → Context → Result Step Refusal
+opens s f x = do
+  _ ← has_read f.reading
+  _ ← unless (used x.node x.id s.records) ContextUsed
+  _ ← room_for_record s
+  Ok (puts s f.putting (codes "context") (Opened x))
+
+abbrev pub keys_up : State → Choice → (node : List ℕ) → (id : ℕ) → KeySet → Result Step Refusal
+keys_up s f node id set = do
+  _ ← has_read f.reading
+  x ← wanted (open_context node id s.records) (OfCall ContextNotFound)
+  _ ← unless (is_some (keys node id s.records)) KeysTwice
+  _ ← unless (not (keys_fit x.suite set)) (BadEvent (codes "key"))
+  _ ← room_for_record s
+  Ok (puts s f.putting (codes "keys") (Keyed node id set))
+
+-- ---- events
+
+-- the step of an event whose checks hold
+abbrev pub checked : State → Choice → Event → Result Step Refusal
+checked s f (AddNode node plmn) = do
+  _ ← new_node s node
+  Ok (adds_node s node plmn)
+checked s f (AddContext x) = do
+  _ ← known_node s x.node
+  policy ← policy_to_hold x.policy
+  opens s f (context_with x policy)
+checked s f (AddKeys node id set) = do
+  _ ← known_node s node
+  keys_up s f node id set
+checked s f (Send node id t answers) = do
+  _ ← known_node s node
+  m ← request_to_send t answers
+  Ok (sends_sealed s (sends f s.records node id Asks m))
+checked s f (Inject t) = Ok (injects s t)
+checked s f (Deliver node number) = do
+  _ ← known_node s node
+  t ← known_document s number
+  Ok (delivers s (accepted f s.records node t))
+checked s f (Restart node) = do
+  _ ← known_node s node
+  Ok (does s (codes "restart"))
+
+abbrev pub step : State → Choice → Event → Step
+step s f e = or_refuses s (checked s f e)
+
+-- the step of a line, which may be of no event
+abbrev pub step_with : State → Choice → Result Event Refusal → Step
+step_with s f (Ok e) = step s f e
+step_with s f (Err e) = refuses s e
+
+abbrev pub line_step : State → Choice → List ℕ → Step
+line_step s f line = step_with s f (line_event line)
