@@ -1,0 +1,3 @@
+pub mod FirstOfList
+pub mod Walk
+pub mod InClear

@@ -1,0 +1,129 @@
+// The first secret place of a message that stands in clear.
+ghost use Rattle.std.specs.Prelude.{◌≡◌, IfOk, map, option_map};
+ghost use Rattle.spec_messages.specs.Message.{request as request_head};
+ghost use Rattle.spec_exchange.specs.Rebuilding.{in_clear};
+ghost use Rattle.n32_values.specs.View.{tree_of};
+ghost use Rattle.http_message.specs.Reading.{header_view, message_view, request_line};
+ghost use Rattle.policy_tables.specs.View.{address_view};
+ghost use Rattle.sealing_check.specs.Rules.{line_found, rest_found, body_found, all_found};
+
+use crate::body::{Body, clear_node};
+use crate::parts::{clear_header, clear_pair, clear_segment};
+use crate::rules::Rules;
+use http_message::{HeaderList, Message, Request};
+use json_ptr::Pointer;
+use n32_values::{Doc, NoMemory, Node};
+use policy_tables::{Address, Policy};
+use std::alloc::Global;
+
+fn node_of(body: &Option<Doc>) -> Option<&Node>
+    ensures { option_map (λ n. tree_of n.now) result ≡ body.now }
+{
+    match body {
+        Some(doc) => Some(doc.node()),
+        None => None,
+    }
+}
+
+fn body_of(message: &Message) -> Option<&Node>
+    ensures { option_map (λ n. tree_of n.now) result ≡ (message_view message.now).body }
+{
+    match message {
+        Message::Request(request) => node_of(&request.body),
+        Message::Response(response) => node_of(&response.body),
+    }
+}
+
+fn clear_in_line(
+    alloc: Global,
+    rules: &Rules<'_>,
+    request: &Request,
+) -> Result<Option<Address>, NoMemory>
+    ensures { IfOk result (λ a. option_map address_view a ≡ line_found rules.now (request_head (request_line request.now))) }
+{
+    match clear_segment(alloc, rules, &request.segments)? {
+        Some(address) => Ok(Some(address)),
+        None => clear_pair(alloc, rules, &request.query),
+    }
+}
+
+fn clear_in_body(
+    alloc: Global,
+    rules: &Rules<'_>,
+    body: &Option<Doc>,
+) -> Result<Option<Address>, NoMemory>
+    ensures { IfOk result (λ a. option_map address_view a ≡ body_found rules.now body.now) }
+{
+    let Some(root) = node_of(body) else {
+        return Ok(None);
+    };
+    let body = Body {
+        policy: rules.policy,
+        mapping: rules.mapping,
+        kind: rules.kind,
+        root,
+    };
+    let mut pointer = Pointer::new(alloc);
+    match clear_node(alloc, &body, body_of(rules.holed), root, &mut pointer)? {
+        Some(place) => Ok(Some(Address::Body(place))),
+        None => Ok(None),
+    }
+}
+
+fn clear_in_rest(
+    alloc: Global,
+    rules: &Rules<'_>,
+    headers: &HeaderList,
+    body: &Option<Doc>,
+) -> Result<Option<Address>, NoMemory>
+    ensures { IfOk result (λ a. option_map address_view a ≡ rest_found rules.now (map header_view headers.now) body.now) }
+{
+    match clear_header(alloc, rules, headers)? {
+        Some(address) => Ok(Some(address)),
+        None => clear_in_body(alloc, rules, body),
+    }
+}
+
+fn clear_in_message(
+    alloc: Global,
+    rules: &Rules<'_>,
+    filled: &Message,
+) -> Result<Option<Address>, NoMemory>
+    ensures { IfOk result (λ a. option_map address_view a ≡ all_found rules.now (message_view filled.now)) }
+{
+    match filled {
+        Message::Request(request) => match clear_in_line(alloc, rules, request)? {
+            Some(address) => Ok(Some(address)),
+            None => clear_in_rest(alloc, rules, &request.headers, &request.body),
+        },
+        Message::Response(response) => {
+            clear_in_rest(alloc, rules, &response.headers, &response.body)
+        }
+    }
+}
+
+/// The address of the first secret place of a filled message that its sender left in clear: one that
+/// stands neither at nor beneath a hole of the message with holes. Secret places are the outermost ones
+/// under the mapping of that number, in the order segments, pairs of the query, headers, nodes of the
+/// body.
+///
+/// Both messages are walked side by side, once. It takes memory for the way to the node that is walked
+/// and for the address.
+pub fn first_in_clear(
+    alloc: Global,
+    policy: &Policy,
+    mapping: Option<u32>,
+    holed: &Message,
+    filled: &Message,
+) -> Result<Option<Address>, NoMemory>
+    ensures { IfOk result (λ a. option_map address_view a ≡ in_clear policy.now mapping (message_view holed.now) (message_view filled.now)) }
+{
+    let rules = Rules {
+        policy,
+        mapping,
+        kind: filled.kind(),
+        holed,
+    };
+    let address = clear_in_message(alloc, &rules, filled)?;
+    Ok(address)
+}
