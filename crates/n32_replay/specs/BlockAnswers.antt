@@ -9,7 +9,7 @@ use Rattle.spec_messages.specs.Block.{Meta}
 use Rattle.spec_messages.specs.Plain.{empty_policy}
 use Rattle.http_message.specs.Stage.{is_built}
 use Rattle.reformat_blocks.specs.Splitting.{Parts, splitting}
-use Rattle.reformat_blocks.specs.declared.message_split.LimitName.{LimitName}
+use Rattle.block_forms.specs.declared.fault.LimitName.{LimitName}
 use Rattle.script_loop.specs.Lines.{lines_of, is_blank}
 use Rattle.n32_replay.specs.Refusals.{Refusal, not_built, message_member, deep_body, limit_passed, refusal_tree}
 use Rattle.n32_replay.specs.LineTree.{line_tree}

@@ -2,8 +2,8 @@
 use Rattle.std.specs.Prelude.{ℕ, List, Option, Some, None, pos, codes}
 use Rattle.spec_documents.specs.Tree.{Tree, whole, words, members, Members, no_members, member}
 use Rattle.spec_messages.specs.Message.{Member, no_object, request_line, status_line, method, scheme, authority, path, version, query, headers}
-use Rattle.reformat_blocks.specs.declared.message_split.LimitName.{LimitName}
-use Rattle.reformat_blocks.specs.declared.message_split.LimitName.TheVariants as limits
+use Rattle.block_forms.specs.declared.fault.LimitName.{LimitName}
+use Rattle.block_forms.specs.declared.fault.LimitName.TheVariants as limits
 
 pub data Refusal : Type 0 where
   -- no JSON value in UTF-8 that nests at most 127 deep

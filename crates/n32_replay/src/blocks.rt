@@ -2,7 +2,7 @@ ghost use Rattle.std.specs.Prelude.{◌≡◌, ◌≤◌, IfOk, IsTrue};
 ghost use Rattle.spec_messages.specs.Message.{is_whole, body_depth};
 ghost use Rattle.n32_values.specs.View.{tree_of};
 ghost use Rattle.http_message.specs.Reading.{message_view};
-ghost use Rattle.reformat_blocks.specs.View.{meta_view};
+ghost use Rattle.block_forms.specs.Metadata.{meta_view};
 ghost use Rattle.n32_replay.specs.LineTree.{line_tree};
 ghost use Rattle.n32_replay.specs.BlockAnswers.{built_message, plain_parts, line_parts, no_meta, block_answer};
 ghost use Rattle.n32_replay.specs.Views.{Gives};

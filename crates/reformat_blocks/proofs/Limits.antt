@@ -8,7 +8,7 @@ use Rattle.spec_messages.specs.Policy.{Policy, is_secret_header, line_secrets, v
 use Rattle.spec_messages.specs.Split.{cleared, hide_each, hide_header}
 use Rattle.spec_messages.specs.Block.{Meta, at_most, in_limits, unless_empty, part_tree, body_leaves, block_of, sent_block}
 use Rattle.reformat_blocks.specs.Splitting.{splitting}
-use Rattle.reformat_blocks.specs.declared.message_split.LimitName.TheVariants as limits
+use Rattle.block_forms.specs.declared.fault.LimitName.TheVariants as limits
 use Rattle.reformat_blocks.proofs.Hiding.{length-map}
 
 over : (n m : ℕ) → m < n → nat_le n m ≡ false

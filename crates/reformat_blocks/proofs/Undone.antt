@@ -8,8 +8,8 @@ use Rattle.spec_messages.specs.Policy.{Policy, values}
 use Rattle.spec_messages.specs.Split.{cleared}
 use Rattle.spec_messages.specs.Block.{Meta, Block, at_most, in_limits, block_of, block_tree, sent_block}
 use Rattle.reformat_blocks.specs.Splitting.{Parts, within, limited, splitting}
-use Rattle.reformat_blocks.specs.declared.message_split.LimitName.{LimitName}
-use Rattle.reformat_blocks.specs.declared.message_split.LimitName.TheVariants as limits
+use Rattle.block_forms.specs.declared.fault.LimitName.{LimitName}
+use Rattle.block_forms.specs.declared.fault.LimitName.TheVariants as limits
 
 within_ok : (b : Bool) (l : LimitName) (r : Result Parts LimitName) (p : Parts) → within b l r ≡ Ok p → (b ≡ true) × (r ≡ Ok p)
 within_ok true l r p e = (refl, e)

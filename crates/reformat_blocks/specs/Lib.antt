@@ -2,3 +2,4 @@ pub mod View
 pub mod Rules
 pub mod Sent
 pub mod Splitting
+pub mod Reading

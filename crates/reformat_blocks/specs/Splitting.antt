@@ -6,8 +6,8 @@ use Rattle.spec_messages.specs.Message.{Message}
 use Rattle.spec_messages.specs.Policy.{Policy, values}
 use Rattle.spec_messages.specs.Split.{cleared}
 use Rattle.spec_messages.specs.Block.{Meta, Block, at_most, block_of, block_tree}
-use Rattle.reformat_blocks.specs.declared.message_split.LimitName.{LimitName}
-use Rattle.reformat_blocks.specs.declared.message_split.LimitName.TheVariants as limits
+use Rattle.block_forms.specs.declared.fault.LimitName.{LimitName}
+use Rattle.block_forms.specs.declared.fault.LimitName.TheVariants as limits
 use Rattle.reformat_blocks.specs.declared.message_split.SplitFault.{SplitFault}
 use Rattle.reformat_blocks.specs.declared.message_split.SplitFault.TheVariants.{Limit, NoMemory}
 use Rattle.reformat_blocks.specs.declared.block.Split.{Split}

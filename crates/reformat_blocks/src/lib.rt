@@ -6,15 +6,16 @@ mod block;
 mod body;
 mod laws;
 mod message_split;
-mod meta;
 mod parts;
+mod read;
 mod rules;
 mod sent;
 
 pub use block::{Block, Split, block_doc};
+pub use block_forms::{BlockWhy, LimitName, Meta, MetaRead, is_meta, read_meta};
 pub use laws::split_is_undone;
-pub use message_split::{LimitName, SplitFault, split};
-pub use meta::{Meta, is_meta};
+pub use message_split::{SplitFault, split};
+pub use read::{BlockRead, read_block};
 
 #[cfg(test)]
 mod tests;

@@ -5,11 +5,11 @@ ghost use Rattle.spec_messages.specs.Fault.{block_fault};
 ghost use Rattle.spec_messages.specs.Message.{is_whole, body_depth};
 ghost use Rattle.http_message.specs.Reading.{header_view, message_view};
 ghost use Rattle.reformat_blocks.specs.Splitting.{splitting, Splits};
-ghost use Rattle.reformat_blocks.specs.View.{meta_view};
+ghost use Rattle.block_forms.specs.Metadata.{meta_view};
 
 use crate::block::{Block, Split};
-use crate::meta::Meta;
 use crate::sent::sent_of;
+use block_forms::{LimitName, Meta};
 use doc_lengths::text_length;
 use http_message::{HeaderList, Message};
 use n32_values::{Doc, NoMemory};
@@ -17,25 +17,6 @@ use policy_tables::Policy;
 use spec_messages::blocks::{fault_decides, sent_block_is_block};
 use spec_messages::plain::sent_block_is_shallow;
 use std::alloc::Global;
-
-/// The limits that a refusal names.
-#[derive(Clone, Copy, Debug, PartialEq, Eq, Drop)]
-pub enum LimitName {
-    /// At most 256 headers.
-    Headers,
-    /// At most 4,096 items of a body.
-    Payload,
-    /// At most 1,024 values.
-    Values,
-    /// At most 4,194,304 bytes of a block's compact text.
-    Block,
-    /// What the wire holds.
-    Wire,
-    /// The document after an operation of an alteration.
-    Alter,
-    /// The records of a store.
-    Records,
-}
 
 /// Why a message isn't split.
 #[derive(Clone, Copy, Debug, PartialEq, Eq, Drop)]

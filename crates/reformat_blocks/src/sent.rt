@@ -10,12 +10,12 @@ ghost use Rattle.n32_values.specs.View.{tree_of};
 ghost use Rattle.http_message.specs.Reading.{header_view, message_view, request_line, kind_view};
 ghost use Rattle.reformat_blocks.specs.Rules.{header_test};
 ghost use Rattle.reformat_blocks.specs.Sent.{item_trees, stood, with_items, line_part, sent_members, hidden_body};
-ghost use Rattle.reformat_blocks.specs.View.{meta_view, lower_ids};
+ghost use Rattle.block_forms.specs.Metadata.{meta_view, lower_ids};
 
 use crate::body::{Body, push_body};
-use crate::meta::{Meta, meta_node};
 use crate::parts::{hidden_headers, hidden_pairs, hidden_segments};
 use crate::rules::Rules;
+use block_forms::{Meta, meta_node};
 use doc_forms::{number_text, put};
 use http_message::{HeaderList, Kind, Message, Request, line_node, put_headers};
 use n32_values::{Doc, NoMemory, Node, NodeList, NodeMap, Text};

@@ -2,7 +2,9 @@ ghost use Rattle.std.specs.Prelude.{◌≤◌, IsTrue};
 ghost use Rattle.spec_messages.specs.Message.{body_depth};
 ghost use Rattle.http_message.specs.Reading.{message_view};
 
-use crate::{LimitName, Meta, Split, SplitFault, block_doc, is_meta, split};
+use crate::{
+    BlockRead, BlockWhy, LimitName, Meta, Split, SplitFault, block_doc, is_meta, read_block, split,
+};
 use http_message::{Message, is_whole, read_message};
 use n32_values::{Doc, NoMemory, Node, Text, depth, doc_text, read_doc};
 use policy_tables::read_policy;
@@ -197,4 +199,24 @@ fn the_first_limit_that_is_passed_is_named(rt: HostRuntime) -> Result<(), Fail> 
         );
     }
     Ok(())
+}
+
+#[test]
+fn a_block_of_a_peer_is_kept_as_it_was_read(rt: HostRuntime) -> Result<(), Fail> {
+    let alloc = rt.alloc();
+    let text =
+        "{\"headers\":[{\"header\":\"Accept\",\"value\":{\"encBlockIndex\":0}}],\"metaData\":{\"authorizedIpxId\":\"null\",\"messageId\":\"00000000000000B1\",\"n32fContextId\":\"00000000000000A1\"},\"payload\":[],\"statusLine\":\"200\"}";
+    let doc = read_doc(alloc, text.as_bytes())?;
+    match read_block(alloc, &doc, 1) {
+        Ok(block) => {
+            let again = block_doc(alloc, &block)?;
+            let again = doc_text(alloc, again.node())?;
+            assert_eq!(rt; again.as_slice(), text.as_bytes());
+        }
+        Err(_) => return Err("no block".into()),
+    }
+    match read_block(alloc, &doc, 2) {
+        Err(BlockRead::Refused(BlockWhy::Missing(1))) => Ok(()),
+        _ => Err("not refused".into()),
+    }
 }

@@ -1,8 +1,8 @@
-use Rattle.std.proofs.Common.{◌≡◌, None, Result, ap, ap₂, sym, ◌∙◌}
+use Rattle.std.proofs.Common.{◌≡◌, None, ap, ap₂, sym, ◌∙◌}
 use Rattle.spec_messages.specs.Plain.{empty_policy}
 use Rattle.http_message.specs.Reading.{message_view}
 use Rattle.reformat_blocks.specs.Splitting.{splitting}
-use Rattle.reformat_blocks.specs.View.{meta_view}
+use Rattle.block_forms.specs.Metadata.{meta_view}
 use Rattle.n32_replay.specs.BlockAnswers.{no_meta, or_limit_refusal}
 use Rattle.n32_replay.proofs.blocks.split_message.Goals as goal
 

@@ -6,7 +6,7 @@ use Rattle.spec_messages.specs.Fault.{block_fault}
 use Rattle.spec_messages.specs.Policy.{values}
 use Rattle.spec_messages.specs.Split.{cleared}
 use Rattle.http_message.specs.Reading.{message_view, header_view}
-use Rattle.reformat_blocks.specs.View.{meta_view}
+use Rattle.block_forms.specs.Metadata.{meta_view}
 use Rattle.reformat_blocks.proofs.Hiding.{length-map}
 use Rattle.reformat_blocks.proofs.Limits.{over_headers, over_items, over_values, over_text, all_within, in_all}
 use Rattle.reformat_blocks.proofs.message_split.split.Goals as goal

@@ -6,7 +6,7 @@ use Rattle.spec_messages.specs.Split.{cleared}
 use Rattle.n32_values.specs.View.{tree_of}
 use Rattle.http_message.specs.Reading.{message_view}
 use Rattle.http_message.specs.declared.message.Message.TheVariants.{Request, Response}
-use Rattle.reformat_blocks.specs.View.{meta_view}
+use Rattle.block_forms.specs.Metadata.{meta_view}
 use Rattle.reformat_blocks.proofs.Assembled.{assembled_block, assembled_items, assembled_values}
 use Rattle.reformat_blocks.proofs.sent.sent_of.Goals as goal
 
