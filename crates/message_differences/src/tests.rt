@@ -129,76 +129,56 @@ fn differences_of_requests_in_their_order(rt: HostRuntime) -> Result<(), Fail> {
     Ok(())
 }
 
-// The query, the headers and the body before and after.
 #[test]
-fn differences_by_name_and_member(rt: HostRuntime) -> Result<(), Fail> {
-    for (i, one, other, ipx, wanted) in [
-        (2, "q=1&a=1", "q=2&q=1&a=1", "p", "-"),
-        (2, "q=1&a=1", "a=1", "p", "-"),
-        (2, "q=1&a=1", "a=1", "x", "query:q"),
-        (2, "q=1&a=1&b=1", "b=1&a=1&q=2", "p", "line:query-order"),
-        (2, "q=1&a=1&b=1", "b=1&a=1&q=1", "p", "line:query-order"),
-        (2, "a=1&a=2", "a=2&a=1", "p", "query:a"),
-        (2, "a=1&q=1&b=1", "c=1&b=2&a=1&q=2", "p", "query:b"),
-        (2, "a=1", "c=1&b=2&a=1", "p", "query:c"),
-        (2, "a=", "a", "p", "query:a"),
-        (2, "s=1", "s", "p", "query:s"),
-        (2, "s", "s=1", "p", "query:s"),
-        (3, "h k", "k h", "p", "line:header-order"),
-        (3, "h k", "k h h", "p", "-"),
-        (4, "{\"o\":1}", "{\"o\":{\"x\":[1]}}", "p", "-"),
-        (4, "{\"b\":1,\"o\":1}", "{\"a\":1,\"o\":2}", "p", "body:/a"),
-        (4, "{\"b\":1,\"o\":1}", "{\"o\":2}", "p", "body:/b"),
+fn differences_of_a_query_and_of_headers(rt: HostRuntime) -> Result<(), Fail> {
+    for (one, other, ipx, wanted) in [
+        ("q=1&a=1", "q=2&q=1&a=1", "p", "-"),
+        ("q=1&a=1", "a=1", "p", "-"),
+        ("q=1&a=1", "a=1", "x", "query:q"),
+        ("q=1&a=1&b=1", "b=1&a=1&q=2", "p", "line:query-order"),
+        ("q=1&a=1&b=1", "b=1&a=1&q=1", "p", "line:query-order"),
+        ("a=1&a=2", "a=2&a=1", "p", "query:a"),
+        ("a=1&q=1&b=1", "c=1&b=2&a=1&q=2", "p", "query:b"),
+        ("a=1", "c=1&b=2&a=1", "p", "query:c"),
+        ("a=", "a", "p", "query:a"),
+        ("s=1", "s", "p", "query:s"),
+        ("s", "s=1", "p", "query:s"),
+    ] {
+        let before = request(rt.alloc(), [PLAIN[0], PLAIN[1], one, "h", "{}"])?;
+        let after = request(rt.alloc(), [PLAIN[0], PLAIN[1], other, "h", "{}"])?;
+        let found = first(rt.alloc(), Some(0), &before, &after, ipx)?;
+        assert!(rt; found.as_str() == wanted, "at {one} {other}");
+    }
+    for (names, wanted) in [("h k", "-"), ("k h", "line:header-order"), ("k h h", "-")] {
+        let before = request(rt.alloc(), [PLAIN[0], PLAIN[1], "q", "h k", "{}"])?;
+        let after = request(rt.alloc(), [PLAIN[0], PLAIN[1], "q", names, "{}"])?;
+        let found = first(rt.alloc(), Some(0), &before, &after, "p")?;
+        assert!(rt; found.as_str() == wanted, "at {names}");
+    }
+    Ok(())
+}
+
+#[test]
+fn differences_of_bodies(rt: HostRuntime) -> Result<(), Fail> {
+    for (one, other, wanted) in [
+        ("{\"o\":1}", "{\"o\":{\"x\":[1]}}", "-"),
+        ("{\"b\":1,\"o\":1}", "{\"a\":1,\"o\":2}", "body:/a"),
+        ("{\"b\":1,\"o\":1}", "{\"o\":2}", "body:/b"),
+        ("{\"o\":1,\"r\":1}", "{\"o\":2,\"r\":2,\"z\":2}", "body:/z"),
+        ("{\"o\":{\"s\":1}}", "{\"o\":{\"s\":2}}", "body:/o/s"),
+        ("{\"o\":{\"x\":1}}", "{\"o\":{\"s\":2}}", "body:/o/s"),
+        ("{\"o\":{\"s\":1}}", "{\"o\":{\"x\":2}}", "body:/o/s"),
+        ("{\"l\":[1,{\"a\":1}]}", "{\"l\":[1,{\"a\":2}]}", "body:/l"),
         (
-            4,
-            "{\"o\":1,\"r\":1}",
-            "{\"o\":2,\"r\":2,\"z\":2}",
-            "p",
-            "body:/z",
-        ),
-        (
-            4,
-            "{\"o\":{\"s\":1}}",
-            "{\"o\":{\"s\":2}}",
-            "p",
-            "body:/o/s",
-        ),
-        (
-            4,
-            "{\"o\":{\"x\":1}}",
-            "{\"o\":{\"s\":2}}",
-            "p",
-            "body:/o/s",
-        ),
-        (
-            4,
-            "{\"o\":{\"s\":1}}",
-            "{\"o\":{\"x\":2}}",
-            "p",
-            "body:/o/s",
-        ),
-        (
-            4,
-            "{\"l\":[1,{\"a\":1}]}",
-            "{\"l\":[1,{\"a\":2}]}",
-            "p",
-            "body:/l",
-        ),
-        (
-            4,
             "{\"a\":{\"b\":{\"c\":1}}}",
             "{\"a\":{\"b\":{\"c\":2}}}",
-            "p",
             "body:/a/b/c",
         ),
-        (4, "[1]", "{}", "p", "body:"),
+        ("[1]", "{}", "body:"),
     ] {
-        let mut parts = PLAIN;
-        parts[i] = one;
-        let before = request(rt.alloc(), parts)?;
-        parts[i] = other;
-        let after = request(rt.alloc(), parts)?;
-        let found = first(rt.alloc(), Some(0), &before, &after, ipx)?;
+        let before = request(rt.alloc(), [PLAIN[0], PLAIN[1], "q", "h", one])?;
+        let after = request(rt.alloc(), [PLAIN[0], PLAIN[1], "q", "h", other])?;
+        let found = first(rt.alloc(), Some(0), &before, &after, "p")?;
         assert!(rt; found.as_str() == wanted, "at {one} {other}");
     }
     Ok(())
