@@ -85,10 +85,10 @@ fn add_surely(
     node: &Text,
     message: u64,
 ) -> Result<u64, Fail> {
-    let mut failed = 0;
+    let mut failed = 0u64;
     for _ in 0..3u8 {
         if store.refresh(alloc, keeper).is_err() {
-            failed += 1;
+            failed = failed.saturating_add(1);
             continue;
         }
         let id = Hex64 { value: 161 };
@@ -98,7 +98,7 @@ fn add_surely(
         }
         let added = store.add(alloc, keeper, delivery(alloc, message)?);
         if added == Err(AddFault::Keeper) {
-            failed += 1;
+            failed = failed.saturating_add(1);
         }
     }
     Ok(failed)
@@ -114,9 +114,10 @@ fn a_record_is_held_once_whichever_call_fails(rt: HostRuntime) -> Result<(), Fai
             fails.push(FailItem { call, keeps }).ok().ok_or("memory")?;
             let mut keeper = MemKeeper::new(alloc, fails);
             let mut store = new_store(alloc);
-            let mut failed = 0;
+            let mut failed = 0u64;
             for message in 0..3u64 {
-                failed += add_surely(alloc, &mut store, &mut keeper, &node, message)?;
+                let more = add_surely(alloc, &mut store, &mut keeper, &node, message)?;
+                failed = failed.saturating_add(more);
             }
             assert!(rt; failed == 1, "at call {call}");
             let again = open_store(alloc, &mut keeper).ok().ok_or("store")?;
