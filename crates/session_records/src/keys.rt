@@ -80,8 +80,8 @@ fn read_one_key(node: Option<&Node>) -> Result<OneKey, RecordRead>
     Ok(OneKey { key, salt })
 }
 
-// The keys of a direction, for requests and for responses.
-pub(crate) fn read_key_pair(node: Option<&Node>) -> Result<(OneKey, OneKey), RecordRead>
+/// The keys of a direction, for requests and for responses.
+pub fn read_key_pair(node: Option<&Node>) -> Result<(OneKey, OneKey), RecordRead>
     ensures { Gives key_pair_view result (document.key_pair_in (option_map (λ n. tree_of n.now) node.entry)) }
 {
     let map = object_at(node)?;

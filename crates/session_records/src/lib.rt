@@ -3,10 +3,12 @@
 #![tactic(auto)]
 
 mod context;
-mod keys;
+/// Keys and salts, as hexadecimal digits.
+pub mod keys;
 mod read;
 mod record;
-mod words;
+/// The words, numbers and lists that records and events have.
+pub mod words;
 mod write;
 
 pub use context::{Context, KeySet, OneKey};

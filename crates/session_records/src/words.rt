@@ -19,8 +19,8 @@ use n32_values::{Hex64, Node, NodeList, NodeMap, PlmnId, Text, TextList, read_he
 use policy_documents::{Policy, PolicyRead, read_policy};
 use std::alloc::Global;
 
-// The name of a node.
-pub(crate) fn read_node_name(alloc: Global, map: &NodeMap, name: &str) -> Result<Text, RecordRead>
+/// The name of a node that a member is.
+pub fn read_node_name(alloc: Global, map: &NodeMap, name: &str) -> Result<Text, RecordRead>
     ensures { Gives (λ t. t) result (wanted (text_at is_node_name name.now map.now) document.no_record) }
 {
     match text_at(map, name, Grammar::NodeName) {
@@ -29,7 +29,8 @@ pub(crate) fn read_node_name(alloc: Global, map: &NodeMap, name: &str) -> Result
     }
 }
 
-pub(crate) fn read_id(node: Option<&Node>) -> Result<Hex64, RecordRead>
+/// The id that a node is.
+pub fn read_id(node: Option<&Node>) -> Result<Hex64, RecordRead>
     ensures { Gives (λ id. id.value) result (wanted (chosen id_of (option_map (λ n. tree_of n.now) node.entry)) document.no_record) }
 {
     if let Some(Node::Words(text)) = node {
@@ -40,7 +41,8 @@ pub(crate) fn read_id(node: Option<&Node>) -> Result<Hex64, RecordRead>
     Err(RecordRead::Form)
 }
 
-pub(crate) fn read_network(alloc: Global, node: Option<&Node>) -> Result<PlmnId, RecordRead>
+/// The PLMN id that a node is.
+pub fn read_network(alloc: Global, node: Option<&Node>) -> Result<PlmnId, RecordRead>
     ensures { Gives (λ p. p) result (wanted (chosen plmn_of (option_map (λ n. tree_of n.now) node.entry)) document.no_record) }
 {
     if let Some(Node::Words(text)) = node {
@@ -63,7 +65,8 @@ fn suite_of(word: &str) -> Option<Suite>
     }
 }
 
-pub(crate) fn read_suite(node: Option<&Node>) -> Result<Suite, RecordRead>
+/// The suite that a node names.
+pub fn read_suite(node: Option<&Node>) -> Result<Suite, RecordRead>
     ensures { Gives suite_view result (wanted (chosen document.suite_of (option_map (λ n. tree_of n.now) node.entry)) document.no_record) }
 {
     if let Some(Node::Words(text)) = node {
@@ -117,7 +120,8 @@ pub(crate) fn suite_word(suite: Suite) -> &'static str
     }
 }
 
-fn number_of(node: &Node) -> Option<u32>
+/// The number of 32 bits that a node is.
+pub fn number_of(node: &Node) -> Option<u32>
     ensures { result ≡ document.number_of (tree_of node.now) }
 {
     match node {
@@ -205,8 +209,9 @@ fn read_identities(alloc: Global, list: &NodeList) -> Result<TextList, RecordRea
     one_identity(alloc, list.item(0))
 }
 
+/// The list of at most one identity that a node is.
 #[tactic(auto, using(spec_documents::proofs::FieldLemmas::views))]
-pub(crate) fn read_ipx(alloc: Global, node: Option<&Node>) -> Result<TextList, RecordRead>
+pub fn read_ipx(alloc: Global, node: Option<&Node>) -> Result<TextList, RecordRead>
     ensures { Gives (λ ts. ts) result (wanted (document.ipx_in (option_map (λ n. tree_of n.now) node.entry)) document.no_record) }
 {
     match node {

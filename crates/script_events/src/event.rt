@@ -1,0 +1,78 @@
+// Events.
+use jwe_flat::Suite;
+use n32_values::{Hex64, Node, PlmnId, Text, TextList, Whole};
+use session_records::KeySet;
+
+/// A context that is handed in. Its policy is a document whose form is judged later.
+#[derive(Drop)]
+pub struct HandedContext {
+    /// The name of the node.
+    pub node: Text,
+    /// The context's id at the node.
+    pub id: Hex64,
+    /// The name of the peer's node.
+    pub peer_node: Text,
+    /// The context's id at the peer.
+    pub peer: Hex64,
+    /// The network of the peer.
+    pub plmn: PlmnId,
+    /// The suite that documents are sealed with.
+    pub suite: Suite,
+    /// The document of the policy.
+    pub policy: Node,
+    /// The node's own intermediary, at most one.
+    pub own_ipx: TextList,
+    /// The peer's intermediary, at most one.
+    pub peer_ipx: TextList,
+}
+
+/// What a line of a script asks for.
+#[derive(Drop)]
+pub enum Event {
+    /// A SEPP begins to work.
+    Node {
+        /// Its name.
+        node: Text,
+        /// The network that it stands in.
+        plmn: PlmnId,
+    },
+    /// A context is handed in.
+    Context(HandedContext),
+    /// The keys of a context are handed in.
+    Keys {
+        /// The name of the node.
+        node: Text,
+        /// The context's id at the node.
+        id: Hex64,
+        /// The keys.
+        keys: KeySet,
+    },
+    /// A message is sent.
+    Send {
+        /// The name of the node.
+        node: Text,
+        /// The context's id at the node.
+        id: Hex64,
+        /// The document of the message.
+        message: Node,
+        /// The id of the request that it answers.
+        answers: Option<Hex64>,
+    },
+    /// A document is put on the wire.
+    Inject {
+        /// The document.
+        document: Node,
+    },
+    /// A document on the wire reaches a node.
+    Deliver {
+        /// The name of the node.
+        node: Text,
+        /// The number of the document.
+        wire: Whole,
+    },
+    /// A node begins anew.
+    Restart {
+        /// The name of the node.
+        node: Text,
+    },
+}
