@@ -101,6 +101,13 @@ fn first(
     }
 }
 
+// The first difference of two requests under the mapping.
+fn asked(alloc: Global, one: [&str; 5], other: [&str; 5], ipx: &str) -> Result<Text, Fail> {
+    let before = request(alloc, one)?;
+    let after = request(alloc, other)?;
+    first(alloc, Some(0), &before, &after, ipx)
+}
+
 const PLAIN: [&str; 5] = ["POST https a HTTP/2", "x/1/2", "q=1&s=1&a=1&b=1", "h", "{}"];
 
 #[test]
@@ -121,16 +128,14 @@ fn differences_of_requests_in_their_order(rt: HostRuntime) -> Result<(), Fail> {
         ([PLAIN[0], "x/3/4", "c", "k", "1"], "path:w"),
         ([PLAIN[0], "x/3/2", "c&q=1&s=1", "k", "1"], "query:a"),
     ] {
-        let before = request(rt.alloc(), own)?;
-        let after = request(rt.alloc(), other)?;
-        let found = first(rt.alloc(), Some(0), &before, &after, "p")?;
+        let found = asked(rt.alloc(), own, other, "p")?;
         assert!(rt; found.as_str() == wanted, "at {wanted}");
     }
     Ok(())
 }
 
 #[test]
-fn differences_of_a_query_and_of_headers(rt: HostRuntime) -> Result<(), Fail> {
+fn differences_of_a_query(rt: HostRuntime) -> Result<(), Fail> {
     for (one, other, ipx, wanted) in [
         ("q=1&a=1", "q=2&q=1&a=1", "p", "-"),
         ("q=1&a=1", "a=1", "p", "-"),
@@ -144,15 +149,20 @@ fn differences_of_a_query_and_of_headers(rt: HostRuntime) -> Result<(), Fail> {
         ("s=1", "s", "p", "query:s"),
         ("s", "s=1", "p", "query:s"),
     ] {
-        let before = request(rt.alloc(), [PLAIN[0], PLAIN[1], one, "h", "{}"])?;
-        let after = request(rt.alloc(), [PLAIN[0], PLAIN[1], other, "h", "{}"])?;
-        let found = first(rt.alloc(), Some(0), &before, &after, ipx)?;
+        let one_query = [PLAIN[0], PLAIN[1], one, "h", "{}"];
+        let other_query = [PLAIN[0], PLAIN[1], other, "h", "{}"];
+        let found = asked(rt.alloc(), one_query, other_query, ipx)?;
         assert!(rt; found.as_str() == wanted, "at {one} {other}");
     }
+    Ok(())
+}
+
+#[test]
+fn differences_of_headers(rt: HostRuntime) -> Result<(), Fail> {
     for (names, wanted) in [("h k", "-"), ("k h", "line:header-order"), ("k h h", "-")] {
-        let before = request(rt.alloc(), [PLAIN[0], PLAIN[1], "q", "h k", "{}"])?;
-        let after = request(rt.alloc(), [PLAIN[0], PLAIN[1], "q", names, "{}"])?;
-        let found = first(rt.alloc(), Some(0), &before, &after, "p")?;
+        let own = [PLAIN[0], PLAIN[1], "q", "h k", "{}"];
+        let other = [PLAIN[0], PLAIN[1], "q", names, "{}"];
+        let found = asked(rt.alloc(), own, other, "p")?;
         assert!(rt; found.as_str() == wanted, "at {names}");
     }
     Ok(())
@@ -176,16 +186,16 @@ fn differences_of_bodies(rt: HostRuntime) -> Result<(), Fail> {
         ),
         ("[1]", "{}", "body:"),
     ] {
-        let before = request(rt.alloc(), [PLAIN[0], PLAIN[1], "q", "h", one])?;
-        let after = request(rt.alloc(), [PLAIN[0], PLAIN[1], "q", "h", other])?;
-        let found = first(rt.alloc(), Some(0), &before, &after, "p")?;
+        let one_body = [PLAIN[0], PLAIN[1], "q", "h", one];
+        let other_body = [PLAIN[0], PLAIN[1], "q", "h", other];
+        let found = asked(rt.alloc(), one_body, other_body, "p")?;
         assert!(rt; found.as_str() == wanted, "at {one} {other}");
     }
     Ok(())
 }
 
 #[test]
-fn differences_of_responses_and_without_a_mapping(rt: HostRuntime) -> Result<(), Fail> {
+fn differences_of_responses(rt: HostRuntime) -> Result<(), Fail> {
     let before = response(rt.alloc(), 200, "h", "{\"o\":1,\"r\":1}")?;
     for (status, names, body, mapping, wanted) in [
         (200, "h", "{\"o\":1,\"r\":1}", Some(0), "-"),
@@ -201,14 +211,21 @@ fn differences_of_responses_and_without_a_mapping(rt: HostRuntime) -> Result<(),
         let found = first(rt.alloc(), mapping, &before, &after, "p")?;
         assert!(rt; found.as_str() == wanted, "at {wanted}");
     }
-    let asked = request(rt.alloc(), PLAIN)?;
-    let found = first(rt.alloc(), Some(0), &asked, &before, "p")?;
-    assert!(rt; found.as_str() == "line:kind");
-    let moved = [PLAIN[0], "x/3/2", PLAIN[2], "h", "{}"];
-    let moved = request(rt.alloc(), moved)?;
-    let found = first(rt.alloc(), Some(0), &asked, &moved, "p")?;
-    assert!(rt; found.as_str() == "-");
-    let found = first(rt.alloc(), None, &asked, &moved, "p")?;
-    assert!(rt; found.as_str() == "line:path");
+    Ok(())
+}
+
+#[test]
+fn kinds_that_differ_and_no_mapping(rt: HostRuntime) -> Result<(), Fail> {
+    let own = request(rt.alloc(), PLAIN)?;
+    let answer = response(rt.alloc(), 200, "h", "{}")?;
+    let moved = request(rt.alloc(), [PLAIN[0], "x/3/2", PLAIN[2], "h", "{}"])?;
+    for (mapping, other, wanted) in [
+        (Some(0), &answer, "line:kind"),
+        (Some(0), &moved, "-"),
+        (None, &moved, "line:path"),
+    ] {
+        let found = first(rt.alloc(), mapping, &own, other, "p")?;
+        assert!(rt; found.as_str() == wanted, "at {wanted}");
+    }
     Ok(())
 }
