@@ -93,10 +93,44 @@ fn found(
     holed: &Message,
     filled: &Message,
 ) -> Result<Text, Fail> {
-    match first_in_clear(alloc, &policy(alloc)?, mapping, holed, filled)? {
+    let policy = policy(alloc)?;
+    match first_in_clear(alloc, &policy, mapping, holed, filled)? {
         Some(address) => Ok(address_text(alloc, &address)?),
-        None => Ok(Text::from_text(alloc, "")?),
+        None => text(alloc, ""),
     }
+}
+
+// What is found in the request `a/s/i` with all else in clear, where the sender left these parts.
+fn found_in_request(
+    alloc: Global,
+    path: &str,
+    pair: &str,
+    cell: &str,
+    left: &str,
+    body: &str,
+) -> Result<Text, Fail> {
+    let filled = request(alloc, "a/s/i", "p", "c", body)?;
+    let holed = request(alloc, path, pair, cell, left)?;
+    found(alloc, Some(0), &holed, &filled)
+}
+
+// What is found in a request of authentication with this body.
+fn found_in_authentication(
+    alloc: Global,
+    mapping: Option<u32>,
+    left: &str,
+    body: &str,
+) -> Result<Text, Fail> {
+    let path = "nausf-auth/v1/ue-authentications";
+    let filled = request(alloc, path, "p", "c", body)?;
+    let holed = request(alloc, path, "p", "c", left)?;
+    found(alloc, mapping, &holed, &filled)
+}
+
+fn found_in_response(alloc: Global, cell: &str, left: &str, body: &str) -> Result<Text, Fail> {
+    let filled = response(alloc, "c", body)?;
+    let holed = response(alloc, cell, left)?;
+    found(alloc, Some(0), &holed, &filled)
 }
 
 const FULL: &str = "{\"l\":[1,{\"k\":2,\"z\":3}],\"s\":{\"t\":4}}";
@@ -104,7 +138,6 @@ const FULL: &str = "{\"l\":[1,{\"k\":2,\"z\":3}],\"s\":{\"t\":4}}";
 #[test]
 fn parts_in_clear_and_their_order(rt: HostRuntime) -> Result<(), Fail> {
     let sealed = "{\"l\":[1,{\"encBlockIndex\":1}],\"s\":{\"encBlockIndex\":2}}";
-    let filled = request(rt.alloc(), "a/s/i", "p", "c", FULL)?;
     for (path, pair, cell, body, wanted) in [
         ("a/#/i", "#", "#", sealed, ""),
         ("a/s/i", "#", "#", sealed, "path:supi"),
@@ -116,8 +149,7 @@ fn parts_in_clear_and_their_order(rt: HostRuntime) -> Result<(), Fail> {
         ("a/#/i", "#", "#", FULL, "body:/l/1/k"),
         ("#/s/#", "#", "#", sealed, "path:supi"),
     ] {
-        let holed = request(rt.alloc(), path, pair, cell, body)?;
-        let address = found(rt.alloc(), Some(0), &holed, &filled)?;
+        let address = found_in_request(rt.alloc(), path, pair, cell, body, FULL)?;
         assert!(rt; address.as_str() == wanted, "at {path} {pair} {cell}");
     }
     Ok(())
@@ -147,9 +179,7 @@ fn nodes_in_clear(rt: HostRuntime) -> Result<(), Fail> {
             "",
         ),
     ] {
-        let holed = request(rt.alloc(), "a/#/i", "#", "#", left)?;
-        let filled = request(rt.alloc(), "a/s/i", "p", "c", body)?;
-        let address = found(rt.alloc(), Some(0), &holed, &filled)?;
+        let address = found_in_request(rt.alloc(), "a/#/i", "#", "#", left, body)?;
         assert!(rt; address.as_str() == wanted, "at {left}");
     }
     Ok(())
@@ -157,36 +187,30 @@ fn nodes_in_clear(rt: HostRuntime) -> Result<(), Fail> {
 
 #[test]
 fn a_plain_identity_is_found(rt: HostRuntime) -> Result<(), Fail> {
-    let path = "nausf-auth/v1/ue-authentications";
-    let body = "{\"supiOrSuci\":\"suci-0-001-01-0-0-0-0000000001\"}";
-    let plain = request(rt.alloc(), path, "p", "c", body)?;
-    for (mapping, wanted) in [(Some(1), "body:/supiOrSuci"), (Some(2), ""), (None, "")] {
-        let address = found(rt.alloc(), mapping, &plain, &plain)?;
-        assert!(rt; address.as_str() == wanted, "at {wanted}");
+    let plain = "{\"supiOrSuci\":\"suci-0-001-01-0-0-0-0000000001\"}";
+    let sealed = "{\"supiOrSuci\":{\"encBlockIndex\":0}}";
+    for (mapping, left, wanted) in [
+        (Some(1), plain, "body:/supiOrSuci"),
+        (Some(1), sealed, ""),
+        (Some(2), plain, ""),
+        (None, plain, ""),
+    ] {
+        let address = found_in_authentication(rt.alloc(), mapping, left, plain)?;
+        assert!(rt; address.as_str() == wanted, "at {left}");
     }
-    let sealed = request(
-        rt.alloc(),
-        path,
-        "p",
-        "c",
-        "{\"supiOrSuci\":{\"encBlockIndex\":0}}",
-    )?;
-    let address = found(rt.alloc(), Some(1), &sealed, &plain)?;
-    assert!(rt; address.as_str() == "");
     Ok(())
 }
 
 #[test]
 fn what_a_response_leaves_in_clear(rt: HostRuntime) -> Result<(), Fail> {
-    let filled = response(rt.alloc(), "c", "{\"l\":[1,{\"k\":2}],\"s\":1}")?;
-    for (cell, body, wanted) in [
+    let body = "{\"l\":[1,{\"k\":2}],\"s\":1}";
+    for (cell, left, wanted) in [
         ("c", "{\"s\":{\"encBlockIndex\":0}}", "header:x-cell"),
         ("#", "{\"s\":1}", "body:/s"),
         ("#", "{\"s\":{\"encBlockIndex\":0}}", ""),
     ] {
-        let holed = response(rt.alloc(), cell, body)?;
-        let address = found(rt.alloc(), Some(0), &holed, &filled)?;
-        assert!(rt; address.as_str() == wanted, "at {cell} {body}");
+        let address = found_in_response(rt.alloc(), cell, left, body)?;
+        assert!(rt; address.as_str() == wanted, "at {cell} {left}");
     }
     Ok(())
 }
