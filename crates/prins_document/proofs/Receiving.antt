@@ -19,7 +19,7 @@ use Rattle.jwe_flat.specs.declared.read.JweMember.{JweMember}
 use Rattle.jwe_flat.specs.declared.read.JweMember.TheVariants as jwe
 use Rattle.spec_exchange.specs.Decoding.{bytes_of, document_of}
 use Rattle.spec_exchange.specs.Jwe.{jwe_in, member_name}
-use Rattle.spec_exchange.specs.Received.{received, block_in, if_has_meta, metadata_of, kind_in, entries_in}
+use Rattle.spec_exchange.specs.Received.{parts_of, received, block_in, if_has_meta, metadata_of, entries_in}
 use Rattle.spec_exchange.proofs.DecodingLemmas.{bytes_of-base64url, bytes_of-is, document_of-reads, document_of-is}
 use Rattle.spec_exchange.proofs.FormLemmas.{bind_at, bind_err, tree-reads, tree-refused}
 use Rattle.prins_document.specs.Form.{HasData, HoldsData, ReadsAad, HasForm, HasJwe, IsRefused, ReadsWire, has_entries, are_entries, list_in}
@@ -118,21 +118,18 @@ received_reads t w h =
     let m = told_meta w.block (meta_view w.meta) h.block.meta in
     let o = get_member (codes "modificationsBlock") fields in
     let right : are_entries o ≡ true = ap (λ x. are_entries (get_member (codes "modificationsBlock") (members_of x))) (sym h.holds.whole) ∙ h.entries in
-    let context = ap (λ x. id_of x.context) m.meta ∙ id_there w.meta.context m.context in
-    let message = ap (λ x. id_of x.message) m.meta ∙ id_there w.meta.message m.message in record {
-      parts = record { jwe = w.jwe; block = w.block; context = hex_after 0 w.meta.context; message = hex_after 0 w.meta.message; authorized = (metadata_of w.block).ipx; kind = kind_in w.block; entries = unwrap_or (list_in o) [] };
+    record {
+      parts = parts_of w.jwe w.block (unwrap_or (list_in o) []);
       are =
           bind_at _ _ fields (told _ _ _ (ap object_in h.holds.whole))
           ∙ (bind_at _ _ fs (told _ _ _ (object_there fields fs h.inner h.holds.held h.holds.held.object))
           ∙ (bind_at _ _ w.jwe (jwe_there h.inner fs w.jwe h.holds.held.object h.jwe)
           ∙ (bind_at _ _ w.block (told _ _ _ (block_there w.jwe.aad w.block h.block.block m.found))
-          ∙ (bind_at _ _ (hex_after 0 w.meta.context) (told _ _ _ context)
-          ∙ (bind_at _ _ (hex_after 0 w.meta.message) (told _ _ _ message)
-          ∙ bind_at _ _ (unwrap_or (list_in o) []) (told _ _ _ (entries_there o right)))))));
+          ∙ bind_at _ _ (unwrap_or (list_in o) []) (told _ _ _ (entries_there o right)))));
       jwe = refl;
       block = refl;
-      context = id_there w.meta.context m.context;
-      message = id_there w.meta.message m.message;
+      context = id_there w.meta.context m.context ∙ ap (λ x. Some (hex_after 0 x.context)) (sym m.meta);
+      message = id_there w.meta.message m.message ∙ ap (λ x. Some (hex_after 0 x.message)) (sym m.meta);
       authorized = ap (λ x. x.ipx) m.meta;
       kind = sym h.block.kind;
       entries = ap (λ x. unwrap_or (list_in (get_member (codes "modificationsBlock") (members_of x))) []) (sym h.holds.whole);
@@ -239,6 +236,4 @@ received_refused t ModificationsBlock h =
     ∙ (bind_at _ _ fs (told _ _ _ (object_there holds.fields fs inner holds.held holds.held.object))
     ∙ (bind_at _ _ whole.0 (jwe_there inner fs whole.0 holds.held.object whole.1)
     ∙ (bind_at _ _ block (told _ _ _ (block_there whole.0.aad block reads m.found))
-    ∙ (bind_at _ _ (hex_after 0 (metadata_of block).context) (told _ _ _ (id_there (metadata_of block).context (ap (λ x. is_id x.context) m.meta ∙ m.context)))
-    ∙ (bind_at _ _ (hex_after 0 (metadata_of block).message) (told _ _ _ (id_there (metadata_of block).message (ap (λ x. is_id x.message) m.meta ∙ m.message)))
-    ∙ bind_err _ _ _ (missed _ _ (entries_absent o wrong)))))))
+    ∙ bind_err _ _ _ (missed _ _ (entries_absent o wrong)))))
