@@ -203,14 +203,17 @@ fn the_first_fault_past_the_members_is_named(rt: HostRuntime) -> Result<(), Fail
 // A block of a response with these items, each a path, a space and a value, divided by `;`.
 fn block_text(alloc: Global, items: &str) -> Result<String, Fail> {
     let mut out = format!(in alloc; "{START},{STATUS},\"payload\":[")?;
-    let mut between = "";
+    let mut is_first = true;
     for item in items.split(';') {
         if let Some((path, value)) = item.split_once(' ') {
+            if !is_first {
+                out.push_str(",")?;
+            }
+            is_first = false;
             let text = format!(in alloc;
-                "{between}{{\"iePath\":\"{path}\",\"ieValueLocation\":\"BODY\",\"value\":{value}}}"
+                "{{\"iePath\":\"{path}\",\"ieValueLocation\":\"BODY\",\"value\":{value}}}"
             )?;
             out.push_str(text.as_str())?;
-            between = ",";
         }
     }
     out.push_str("]}")?;
