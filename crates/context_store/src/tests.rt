@@ -1,8 +1,13 @@
-use crate::{AddFault, OpenFault, Store, new_store, open_store};
+ghost use Rattle.std.specs.Prelude.{IfOk, IsTrue};
+ghost use Rattle.spec_protocol.specs.RecordDocument.{is_well_named};
+ghost use Rattle.session_records.specs.View.{record_view};
+
+use crate::{AddFault, OpenFault, open_store};
+use doc_forms::is_node_name;
 use http_message::Kind;
 use n32_outside::{FailItem, FailList, Keeper, MemKeeper};
 use n32_values::{Hex64, Text};
-use session_records::{Record, read_record};
+use session_records::Record;
 use std::alloc::Global;
 use std::test::Fail;
 
@@ -32,8 +37,13 @@ fn keeper_of(alloc: Global, texts: &[&[u8]]) -> Result<MemKeeper, Fail> {
     Ok(keeper)
 }
 
-fn delivery(alloc: Global, message: u64) -> Result<Record, Fail> {
+fn delivery(alloc: Global, message: u64) -> Result<Record, Fail>
+    ensures { IfOk result (λ r. IsTrue (is_well_named (record_view r))) }
+{
     let node = Text::from_text(alloc, "A").ok().ok_or("memory")?;
+    if !is_node_name(node.as_str()) {
+        return Err("no name".into());
+    }
     Ok(Record::Delivered {
         node,
         id: Hex64 { value: 161 },
@@ -77,57 +87,50 @@ fn questions_are_answered_from_what_is_held(rt: HostRuntime) -> Result<(), Fail>
     Ok(())
 }
 
-// Adds the delivery of a message, again where a failing put did not keep it. Answers how often the keeper failed.
-fn add_surely(
-    alloc: Global,
-    store: &mut Store,
-    keeper: &mut MemKeeper,
-    node: &Text,
-    message: u64,
-) -> Result<u64, Fail> {
-    let mut failed = 0u64;
-    for _ in 0..3u8 {
-        if store.refresh(alloc, keeper).is_err() {
-            failed = failed.saturating_add(1);
-            continue;
-        }
-        let id = Hex64 { value: 161 };
-        let known = store.delivered(node, id, Kind::Request, Hex64 { value: message });
-        if known.is_some() {
-            break;
-        }
-        let added = store.add(alloc, keeper, delivery(alloc, message)?);
-        if added == Err(AddFault::Keeper) {
-            failed = failed.saturating_add(1);
-        }
+// A keeper that holds nothing and fails at this call.
+fn failing_keeper(alloc: Global, call: u64, keeps: bool) -> Result<MemKeeper, Fail> {
+    let mut fails = FailList::new(alloc);
+    fails.push(FailItem { call, keeps }).ok().ok_or("memory")?;
+    Ok(MemKeeper::new(alloc, fails))
+}
+
+// Where the delivery of message 7 is held, after its put failed.
+fn held_after_failed_put(alloc: Global, keeps: bool) -> Result<Option<u64>, Fail> {
+    let mut keeper = failing_keeper(alloc, 1, keeps)?;
+    let mut store = open_store(alloc, &mut keeper).ok().ok_or("store")?;
+    let record = delivery(alloc, 7)?;
+    if store.add(alloc, &mut keeper, record) != Err(AddFault::Keeper) {
+        return Err("the put did not fail".into());
     }
-    Ok(failed)
+    let again = open_store(alloc, &mut keeper).ok().ok_or("store")?;
+    let node = Text::from_text(alloc, "A").ok().ok_or("memory")?;
+    Ok(again.delivered(
+        &node,
+        Hex64 { value: 161 },
+        Kind::Request,
+        Hex64 { value: 7 },
+    ))
 }
 
 #[test]
-fn a_record_is_held_once_whichever_call_fails(rt: HostRuntime) -> Result<(), Fail> {
+fn a_failed_put_may_have_kept_its_record(rt: HostRuntime) -> Result<(), Fail> {
+    assert!(rt; held_after_failed_put(rt.alloc(), false)? == None);
+    assert!(rt; held_after_failed_put(rt.alloc(), true)? == Some(0));
+    let mut keeper = failing_keeper(rt.alloc(), 0, false)?;
+    let opened = open_store(rt.alloc(), &mut keeper);
+    assert!(rt; opened.err() == Some(OpenFault::Keeper));
+    Ok(())
+}
+
+#[test]
+fn a_record_is_added(rt: HostRuntime) -> Result<(), Fail> {
     let alloc = rt.alloc();
-    let node = Text::from_text(alloc, "A").ok().ok_or("memory")?;
-    for call in 0..4u64 {
-        for keeps in [false, true] {
-            let mut fails = FailList::new(alloc);
-            fails.push(FailItem { call, keeps }).ok().ok_or("memory")?;
-            let mut keeper = MemKeeper::new(alloc, fails);
-            let mut store = new_store(alloc);
-            let mut failed = 0u64;
-            for message in 0..3u64 {
-                let more = add_surely(alloc, &mut store, &mut keeper, &node, message)?;
-                failed = failed.saturating_add(more);
-            }
-            assert!(rt; failed == 1, "at call {call}");
-            let again = open_store(alloc, &mut keeper).ok().ok_or("store")?;
-            for message in 0..3u64 {
-                let id = Hex64 { value: 161 };
-                let at = again.delivered(&node, id, Kind::Request, Hex64 { value: message });
-                assert!(rt; at == Some(message), "at call {call}");
-            }
-        }
-    }
+    let mut keeper = keeper_of(alloc, &[OPENED])?;
+    let mut store = open_store(alloc, &mut keeper).ok().ok_or("store")?;
+    let record = delivery(alloc, 7)?;
+    assert!(rt; store.add(alloc, &mut keeper, record) == Ok(1));
+    store.forget();
+    assert!(rt; store.refresh(alloc, &mut keeper).is_ok());
     Ok(())
 }
 
@@ -146,11 +149,5 @@ fn the_first_bad_record_is_named(rt: HostRuntime) -> Result<(), Fail> {
             "{number}"
         );
     }
-    let record = read_record(alloc, CLOSED).ok().ok_or("record")?;
-    let mut keeper = keeper_of(alloc, &[OPENED])?;
-    let mut store = open_store(alloc, &mut keeper).ok().ok_or("store")?;
-    assert!(rt; store.add(alloc, &mut keeper, record) == Ok(1));
-    store.forget();
-    assert!(rt; store.refresh(alloc, &mut keeper).is_ok());
     Ok(())
 }
