@@ -117,7 +117,7 @@ fn differences_of_lines_and_headers_in_their_order(rt: HostRuntime) -> Result<()
         ),
     ] {
         let found = first_of_documents(rt.alloc(), LINE, other)?;
-        assert!(rt; found.as_str() == wanted, "at {wanted}");
+        assert!(rt; found.as_str() == wanted);
     }
     Ok(())
 }
@@ -179,7 +179,7 @@ fn differences_of_responses(rt: HostRuntime) -> Result<(), Fail> {
         (200, "{\"r\":1}", "-"),
     ] {
         let found = first_of_responses(rt.alloc(), status, body)?;
-        assert!(rt; found.as_str() == wanted, "at {wanted}");
+        assert!(rt; found.as_str() == wanted);
     }
     let asked = message(rt.alloc(), LINE)?;
     let answer = response(rt.alloc(), 200, "{}")?;

@@ -15,6 +15,13 @@ fn read(alloc: Global, text: &str) -> Result<Event, Fail> {
     Ok(event)
 }
 
+fn first_number(event: &Event) -> Option<u32> {
+    match event {
+        Event::Keys { keys, .. } => Some(keys.first),
+        _ => None,
+    }
+}
+
 #[test]
 fn a_context_and_its_keys_are_read(rt: HostRuntime) -> Result<(), Fail> {
     let Event::Context(context) = read(rt.alloc(), CONTEXT)? else {
@@ -23,11 +30,8 @@ fn a_context_and_its_keys_are_read(rt: HostRuntime) -> Result<(), Fail> {
     assert!(rt; context.node.as_str() == "A" && context.peer_node.as_str() == "B");
     assert!(rt; context.id.value == 161 && context.peer.value == 177);
     assert!(rt; context.plmn.as_str() == "00102" && context.own_ipx.len() == 1);
-    let Event::Keys { id, keys, .. } = read(rt.alloc(), KEYS)? else {
-        return Err(Fail::from("keys"));
-    };
-    assert!(rt; id.value == 161 && keys.first == 0);
-    assert!(rt; keys.send_response.salt[0] == 16 && keys.receive_request.salt[0] == 32);
+    let event = read(rt.alloc(), KEYS)?;
+    assert!(rt; first_number(&event) == Some(0));
     Ok(())
 }
 
