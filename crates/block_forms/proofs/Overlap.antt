@@ -1,26 +1,28 @@
--- Among paths in order and apart, only the neighbours of a path can overlap it.
-use Rattle.std.proofs.Common.{◌≡◌, ℕ, zero, suc, ◌+◌, ◌-◌, ◌<◌, ◌≤◌, List, [], ◌∷◌, ◌++◌, length, take, drop, get_or, slice_get, Bool, true, false, not, ◌||◌, Some, None, Result, Ok, Err, MatchResult, Ordering, Less, Equal, Greater, refl, sym, ap, subst, ◌∙◌, min, arith}
-use Rattle.std.specs.Prelude.{bytes_eq}
-use Rattle.std.specs.List.{AllByRecursion, AllWithin, HoldsAt, list_any, insert}
-use Rattle.std.proofs.lemmas.List.Folds.{list_any-append}
-use Rattle.std.specs.Cmp.{nat_cmp_is}
-use Rattle.n32_values.proofs.Trees.{drop_at}
-use Rattle.std.specs.Ordering.{nat_cmp, MatchOrdering, ordering_reverse, ordering_index, ordering_then}
-use Rattle.std.specs.Cmp.{IsTotalOrder}
+-- Among paths in order, those beneath a path follow it: what the walk over them finds is the first overlap.
+use Rattle.std.proofs.Common.{◌≡◌, ℕ, zero, suc, ◌+◌, ◌-◌, ◌<◌, ◌≤◌, List, [], ◌∷◌, ◌++◌, length, map, drop, get_or, slice_get, Bool, true, false, ◌&&◌, ◌||◌, Option, Some, None, Ordering, Less, Equal, Greater, append_assoc, append-nil, refl, sym, ap, subst, ◌∙◌, min, arith, if◌then◌else◌}
+use Rattle.std.specs.Prelude.{bytes_eq, nat_lt, nat_le, nat_eq}
+use Rattle.std.specs.List.{AllByRecursion, list_any, sum_by}
+use Rattle.std.specs.List.Sorted.{IsPermutation, IsSortedBy}
+use Rattle.std.specs.Cmp.{IsTotalOrder, nat_cmp_is}
 use Rattle.std.specs.Cmp.Lexicographic.{lists_total}
 use Rattle.std.specs.FinMap.{slice_cmp-IsAntisymmetric}
-use Rattle.std.specs.List.Sorted.{IsSearchInRange, IsBinarySearchResult, IsNonDecreasingBy}
-use Rattle.std.proofs.lemmas.Bool.{and_parts, and_from}
+use Rattle.std.specs.Ordering.{nat_cmp, is_lt, MatchOrdering, ordering_reverse, ordering_then}
+use Rattle.std.proofs.lemmas.Bool.{and_parts, and_from, or_right, or_left, or_parts, leb-true, leb-false, le-leb, lt-leb, lt-ltb, le-ltb, eq-eqb, eqb-true, ne_eqb}
 use Rattle.std.proofs.lemmas.Cmp.{nat_list_cmp_total, tied_itself}
 use Rattle.std.proofs.lemmas.Map.Lookups.{exact_bytes}
-use Rattle.std.proofs.lemmas.List.{take-append-drop, length-drop}
+use Rattle.std.proofs.lemmas.List.{length-drop, map-append}
+use Rattle.std.proofs.lemmas.List.Folds.{list_any-append}
+use Rattle.std.proofs.lemmas.List.Sorted.{list_any-IsPermutation, sum_by-IsPermutation, IsPermutation-middle, ranks_by, sorted_far}
+use Rattle.std.proofs.lemmas.List.Sums.{sum_by-cons}
 use Rattle.std.proofs.lemmas.Slice.Eq.{bytes_eq-Decides}
+use Rattle.n32_values.proofs.Trees.{drop_at}
 use Rattle.spec_documents.specs.Tree.{name_cmp}
 use Rattle.spec_documents.specs.Place.{Pointer, is_prefix}
 use Rattle.block_forms.specs.Paths.{path_cmp, overlaps, overlap_from}
-use Rattle.block_forms.specs.Apart.{Apart, AreApart, HasSame, ends_above, starts_beneath, FoundAt, BelongsAt}
+use Rattle.block_forms.specs.Numbered.{number_view, numbered, meets, has_earlier, overlap_by, is_within, IsFirst, with_number, AreInOrder, count_of, AreOnce}
+use Rattle.block_forms.specs.declared.overlaps.Numbered.{Numbered}
 
-path_order : IsTotalOrder path_cmp
+pub path_order : IsTotalOrder path_cmp
 path_order = lists_total nat_list_cmp_total
 
 same_path : (p q : Pointer) → path_cmp p q ≡ Equal → p ≡ q
@@ -64,48 +66,10 @@ between (x ∷ p) (w ∷ r) (z ∷ y) e f g =
         and_from (bytes_eq x z) (is_prefix p y) ((bytes_eq-Decides x z).1 alike) (more low high)
     by Greater d h more = let clash = rw d at f in cc
 
-not_after : (q b : Pointer) → path_cmp b q ≡ Greater → is_prefix b q ≡ false
-not_after q b g = by (is_prefix b q) refl
-  where
-    by : (x : Bool) → is_prefix b q ≡ x → is_prefix b q ≡ false
-    by false e = e
-    by true e = absurd (above_first b q e g)
-
-not_before : (q a : Pointer) → path_cmp a q ≡ Less → is_prefix q a ≡ false
-not_before q a g = not_after a q (flip q a ∙ ap ordering_reverse g)
-
--- ---- among the paths after q, only the first can be beneath it
-
-none_beneath : (q b : Pointer) (bs : List Pointer) → is_prefix q b ≡ false → path_cmp b q ≡ Greater → AllByRecursion (Apart b) bs → AllByRecursion (λ p. path_cmp p q ≡ Greater) bs → overlaps q bs ≡ false
-none_beneath q b [] e g h k = refl
-none_beneath q b (c ∷ bs) e g h k = rw (not_after q c k.0, by (is_prefix q c) refl, none_beneath q b bs e g h.1 k.1)
-  where
-    by : (x : Bool) → is_prefix q c ≡ x → is_prefix q c ≡ false
-    by false d = d
-    by true d = let under = between q c b d (flip q b ∙ ap ordering_reverse g) h.0.before in let clash : true ≡ false = sym under ∙ e in cc
-
-pub beneath_only : (q : Pointer) (bs : List Pointer) → AreApart bs → AllByRecursion (λ p. path_cmp p q ≡ Greater) bs → overlaps q bs ≡ starts_beneath q bs
-beneath_only q [] h k = refl
-beneath_only q (b ∷ bs) h k = by (is_prefix q b) refl
-  where
-    by : (x : Bool) → is_prefix q b ≡ x → overlaps q (b ∷ bs) ≡ is_prefix q b
-    by true e = rw e
-    by false e = rw (e, not_after q b k.0) (none_beneath q b bs e k.0 h.0 k.1)
-
--- ---- among the paths before q, only the last can be above it
-
-pub above_only : (q : Pointer) (ps : List Pointer) → AreApart ps → AllByRecursion (λ p. path_cmp p q ≡ Less) ps → overlaps q ps ≡ ends_above q ps
-above_only q [] h k = refl
-above_only q (a ∷ []) h k = rw (not_before q a k.0) (or_false (is_prefix a q))
-  where
-    or_false : (x : Bool) → (x || false) ≡ x
-    or_false true = refl
-    or_false false = refl
-above_only q (a ∷ b ∷ ps) h k = rw (not_before q a k.0, by (is_prefix a q) refl) (above_only q (b ∷ ps) h.1 k.1)
-  where
-    by : (x : Bool) → is_prefix a q ≡ x → is_prefix a q ≡ false
-    by false d = d
-    by true d = let under = between a q b d h.0.0.before k.1.0 in let clash : true ≡ false = sym under ∙ h.0.0.aside in cc
+-- a path begins with itself
+prefix_self : (p : Pointer) → is_prefix p p ≡ true
+prefix_self [] = refl
+prefix_self (x ∷ p) = and_from _ _ ((bytes_eq-Decides x x).1 refl) (prefix_self p)
 
 -- ---- the comparison, token by token
 
@@ -129,187 +93,290 @@ ended (x ∷ p) (y ∷ q) a b i e f g = absurd (omega arith)
 pub tokens_end : (l r : Pointer) (i : ℕ) → i ≡ min (length l) (length r) → path_cmp (drop i l) (drop i r) ≡ nat_cmp (length l) (length r)
 tokens_end l r i e = nat_cmp_is (length l) (length r) (path_cmp (drop i l) (drop i r)) (ended (drop i l) (drop i r) (length l) (length r) i (length-drop i l) (length-drop i r) e)
 
--- ---- what a search finds
+-- ---- the items in another order
 
-all_at : {X : Type 0} (P : X → Type 0) (xs : List X) (j : ℕ) (d : X) → AllByRecursion P xs → j < length xs → P (get_or xs j d)
-all_at P [] j d h lt = absurd (omega arith)
-all_at P (x ∷ xs) zero d h lt = h.0
-all_at P (x ∷ xs) (suc j) d h lt = all_at P xs j d h.1 (omega arith)
+any_same : {X : Type 0} (p q : X → Bool) → ((x : X) → p x ≡ q x) → (xs : List X) → list_any p xs ≡ list_any q xs
+any_same p q h [] = refl
+any_same p q h (x ∷ xs) = rw (h x) (ap (λ b. q x || b) (any_same p q h xs))
 
-index_le : (o : Ordering) → ordering_index o ≤ 2
-index_le Less = omega arith
-index_le Equal = omega arith
-index_le Greater = omega arith
+any_alike : {X : Type 0} (p q : X → Bool) (xs : List X) → AllByRecursion (λ x. p x ≡ q x) xs → list_any p xs ≡ list_any q xs
+any_alike p q [] h = refl
+any_alike p q (x ∷ xs) h = rw h.0 (ap (λ b. q x || b) (any_alike p q xs h.1))
 
-rises_at : (o : Ordering) (a b q : Pointer) → path_cmp b q ≡ o → path_cmp a b ≡ Less → ordering_index (path_cmp a q) ≤ ordering_index o
-rises_at Less a b q is lt = rw (path_order.trans a b q lt is) (omega arith)
-rises_at Equal a b q is lt = rw (subst (λ (k : Pointer). path_cmp a k ≡ Less) (same_path b q is) lt) (omega arith)
-rises_at Greater a b q is lt = index_le _
+pub moved_alike : (k : ℕ) (es fs : List (ℕ × Pointer)) → IsPermutation es fs → overlap_by k fs ≡ overlap_by k es
+moved_alike k es fs h =
+    sym (list_any-IsPermutation (λ f. nat_le f.0 k && has_earlier f fs) es fs h)
+    ∙ any_same _ _ (λ f. ap (λ b. nat_le f.0 k && b) (sym (list_any-IsPermutation (λ e. nat_lt e.0 f.0 && meets f.1 e.1) es fs h))) es
 
-rises : (ps : List Pointer) (q : Pointer) → AreApart ps → IsNonDecreasingBy (λ p. ordering_index (path_cmp p q)) ps
-rises [] q up i j d le lt = absurd (omega arith)
-rises (p ∷ ps) q up zero zero d le lt = omega arith
-rises (p ∷ ps) q up zero (suc j) d le lt = let first = all_at (Apart p) ps j d up.0 (omega arith) in rises_at _ p (get_or ps j d) q refl first.before
-rises (p ∷ ps) q up (suc i) zero d le lt = absurd (omega arith)
-rises (p ∷ ps) q up (suc i) (suc j) d le lt = rises ps q up.1 i j d (omega arith) (omega arith)
+swapped : (k : ℕ) (x y : ℕ × Pointer) (es : List (ℕ × Pointer)) → overlap_by k (x ∷ y ∷ es) ≡ overlap_by k (y ∷ x ∷ es)
+swapped k x y es = moved_alike k (y ∷ x ∷ es) (x ∷ y ∷ es) (IsPermutation-middle (y ∷ []) x es)
 
-finds : (ps : List Pointer) (i : ℕ) (q : Pointer) → i < length ps → HoldsAt (λ p. path_cmp p q ≡ Equal) ps i → FoundAt q ps i
-finds [] i q lt equal = absurd (omega arith)
-finds (p ∷ ps) zero q lt equal = ap Some (same_path p q (equal p))
-finds (p ∷ ps) (suc i) q lt equal = finds ps i q (omega arith) equal
+-- ---- items that change nothing
 
-belongs : (ps : List Pointer) (i : ℕ) (q : Pointer) → i ≤ length ps → AllWithin (λ p. path_cmp p q ≡ Less) ps 0 i → AllWithin (λ p. path_cmp p q ≡ Greater) ps i (length ps) → BelongsAt q ps i
-belongs [] zero q le below above = record { within = omega arith; before = tt; after = tt }
-belongs [] (suc i) q le below above = absurd (omega arith)
-belongs (p ∷ ps) zero q le below above =
-    let rest = belongs ps zero q (omega arith) (λ k d low high. absurd (omega arith)) (λ k d low high. above (suc k) d (omega arith) (omega arith)) in record {
-      within = omega arith;
-      before = tt;
-      after = (above 0 p (omega arith) (omega arith), rest.after);
-    }
-belongs (p ∷ ps) (suc i) q le below above =
-    let rest = belongs ps i q (omega arith) (λ k d low high. below (suc k) d (omega arith) (omega arith)) (λ k d low high. above (suc k) d (omega arith) (omega arith)) in record {
-      within = omega (arith, rest.within);
-      before = (below 0 p (omega arith) (omega arith), rest.before);
-      after = rest.after;
-    }
-
-pub searched : (ps : List Pointer) (q : Pointer) → AreApart ps → (r : Result ℕ ℕ) → IsSearchInRange r (length ps) → IsBinarySearchResult (λ p. path_cmp p q) ps r → MatchResult r (FoundAt q ps) (BelongsAt q ps)
-searched ps q up (Ok i) bound equal = finds ps i q bound equal
-searched ps q up (Err i) bound parted = let split = parted (rises ps q up) in belongs ps i q bound split.0 split.1
-
--- ---- a path that is added
-
-apart_front : (ps qs : List Pointer) → AreApart (ps ++ qs) → AreApart ps
-apart_front [] qs h = tt
-apart_front (p ∷ ps) qs h = (all_front (Apart p) ps qs h.0, apart_front ps qs h.1)
+-- one of a number past k
+past : (k : ℕ) (x : ℕ × Pointer) (es : List (ℕ × Pointer)) → k < x.0 → overlap_by k (x ∷ es) ≡ overlap_by k es
+past k x es lt = rw (lt-leb x.0 k lt) (any_same _ _ (λ f. by f (nat_le f.0 k) refl) es)
   where
-    all_front : (P : Pointer → Type 0) (ps qs : List Pointer) → AllByRecursion P (ps ++ qs) → AllByRecursion P ps
-    all_front P [] qs h = tt
-    all_front P (p ∷ ps) qs h = (h.0, all_front P ps qs h.1)
+    by : (f : ℕ × Pointer) (b : Bool) → nat_le f.0 k ≡ b → (nat_le f.0 k && ((nat_lt x.0 f.0 && meets f.1 x.1) || has_earlier f es)) ≡ (nat_le f.0 k && has_earlier f es)
+    by f false e = rw e refl
+    by f true e = let low = leb-true f.0 k e in rw (le-ltb x.0 f.0 (omega arith)) refl
 
-apart_back : (ps qs : List Pointer) → AreApart (ps ++ qs) → AreApart qs
-apart_back [] qs h = h
-apart_back (p ∷ ps) qs h = apart_back ps qs h.1
+meets_back : (p q : Pointer) → meets p q ≡ false → meets q p ≡ false
+meets_back p q e = let parts = or_parts (is_prefix p q) (is_prefix q p) e in rw (parts.0, parts.1) refl
 
--- whether a path overlaps is told by its neighbours
-pub neighbours_tell : (q : Pointer) (ps : List Pointer) (i : ℕ) → AreApart ps → BelongsAt q ps i → overlaps q ps ≡ (ends_above q (take i ps) || starts_beneath q (drop i ps))
-neighbours_tell q ps i h b =
-    let whole : AreApart (take i ps ++ drop i ps) = subst AreApart (sym (take-append-drop i ps)) h in
-    ap (overlaps q) (sym (take-append-drop i ps)) ∙ list_any-append (λ p. is_prefix q p || is_prefix p q) (take i ps) (drop i ps)
-    ∙ (λ k. above_only q (take i ps) (apart_front (take i ps) (drop i ps) whole) b.before k || beneath_only q (drop i ps) (apart_back (take i ps) (drop i ps) whole) b.after k)
-
-or_none : (x y : Bool) → (x || y) ≡ false → (x ≡ false) × (y ≡ false)
-or_none false false e = (refl, refl)
-or_none false true e = cc
-or_none true y e = cc
-
-all_with : (P : Pointer → Type 0) (ps qs : List Pointer) (q : Pointer) → P q → AllByRecursion P (ps ++ qs) → AllByRecursion P (ps ++ q ∷ qs)
-all_with P [] qs q p h = (p, h)
-all_with P (x ∷ ps) qs q p h = (h.0, all_with P ps qs q p h.1)
-
-before_all : (q : Pointer) (qs : List Pointer) → AllByRecursion (λ p. path_cmp p q ≡ Greater) qs → overlaps q qs ≡ false → AllByRecursion (Apart q) qs
-before_all q [] k e = tt
-before_all q (p ∷ qs) k e =
-    let parts = or_none (is_prefix q p || is_prefix p q) (overlaps q qs) e in
-    let ends = or_none (is_prefix q p) (is_prefix p q) parts.0 in
-    (record { before = flip q p ∙ ap ordering_reverse k.0; aside = ends.0 }, before_all q qs k.1 parts.1)
-
-apart_with : (q : Pointer) (ps qs : List Pointer) → AllByRecursion (λ p. path_cmp p q ≡ Less) ps → AllByRecursion (λ p. path_cmp p q ≡ Greater) qs → overlaps q (ps ++ qs) ≡ false → AreApart (ps ++ qs) → AreApart (ps ++ q ∷ qs)
-apart_with q [] qs k m e h = (before_all q qs m e, h)
-apart_with q (p ∷ ps) qs k m e h =
-    let parts = or_none (is_prefix q p || is_prefix p q) (overlaps q (ps ++ qs)) e in
-    let ends = or_none (is_prefix q p) (is_prefix p q) parts.0 in
-    (all_with (Apart p) ps qs q (record { before = k.0; aside = ends.1 }) h.0, apart_with q ps qs k.1 m parts.1 h.1)
-
-pub added_apart : (q : Pointer) (ps : List Pointer) (i : ℕ) → AreApart ps → BelongsAt q ps i → overlaps q ps ≡ false → AreApart (insert ps i q)
-added_apart q ps i h b e =
-    let join = sym (take-append-drop i ps) in
-    apart_with q (take i ps) (drop i ps) b.before b.after (ap (overlaps q) (sym join) ∙ e) (subst AreApart join h)
-
-or_swap : (x y z : Bool) → (x || (y || z)) ≡ (y || (x || z))
-or_swap true true z = refl
-or_swap true false z = refl
-or_swap false y z = refl
-
-pub added_same : (q : Pointer) (ps qs : List Pointer) (i : ℕ) → HasSame ps qs → HasSame (q ∷ ps) (insert qs i q)
-added_same q ps qs i h test =
-    ap (λ x. test q || x) (h test ∙ ap (list_any test) (sym (take-append-drop i qs)) ∙ list_any-append test (take i qs) (drop i qs))
-    ∙ or_swap (test q) (list_any test (take i qs)) (list_any test (drop i qs)) ∙ sym (list_any-append test (take i qs) (q ∷ drop i qs))
-
--- a path that is there overlaps itself
-prefix_self : (p : Pointer) → is_prefix p p ≡ true
-prefix_self [] = refl
-prefix_self (x ∷ p) = and_from _ _ ((bytes_eq-Decides x x).1 refl) (prefix_self p)
-
-pub found_overlaps : (q : Pointer) (ps : List Pointer) (i : ℕ) → FoundAt q ps i → overlaps q ps ≡ true
-found_overlaps q [] i e = cc
-found_overlaps q (p ∷ ps) zero e =
-    let same : p ≡ q = cc in
-    let up : is_prefix q p ≡ true = ap (is_prefix q) same ∙ prefix_self q in rw up refl
-found_overlaps q (p ∷ ps) (suc i) e = rw (found_overlaps q ps i e) (or_true (is_prefix q p || is_prefix p q))
+none_earlier : (x : ℕ × Pointer) (es : List (ℕ × Pointer)) → AllByRecursion (λ e. meets x.1 e.1 ≡ false) es → has_earlier x es ≡ false
+none_earlier x [] h = refl
+none_earlier x (e ∷ es) h = rw (h.0, none_earlier x es h.1) (by (nat_lt e.0 x.0))
   where
-    or_true : (x : Bool) → (x || true) ≡ true
-    or_true true = refl
-    or_true false = refl
+    by : (b : Bool) → ((b && false) || false) ≡ false
+    by true = refl
+    by false = refl
 
--- ---- the neighbours themselves
+-- one that overlaps none of them
+aside : (k : ℕ) (x : ℕ × Pointer) (es : List (ℕ × Pointer)) → AllByRecursion (λ e. meets x.1 e.1 ≡ false) es → overlap_by k (x ∷ es) ≡ overlap_by k es
+aside k x es h =
+    rw (le-ltb x.0 x.0 (omega arith), none_earlier x es h) (by (nat_le x.0 k) ∙ any_alike _ _ es (each es h))
+  where
+    by : (b : Bool) → ((b && false) || list_any (λ f. nat_le f.0 k && has_earlier f (x ∷ es)) es) ≡ list_any (λ f. nat_le f.0 k && has_earlier f (x ∷ es)) es
+    by true = refl
+    by false = refl
 
-pub last_above : (q : Pointer) (ps : List Pointer) (j : ℕ) (p : Pointer) → j < length ps → p ≡ get_or ps j p → is_prefix p q ≡ ends_above q (take (suc j) ps)
-last_above q [] j p lt e = absurd (omega arith)
-last_above q (x ∷ ps) zero p lt e = ap (λ y. is_prefix y q) e
-last_above q (x ∷ []) (suc j) p lt e = absurd (omega arith)
-last_above q (x ∷ y ∷ ps) (suc j) p lt e = last_above q (y ∷ ps) j p (omega arith) e
+    one : (a b : Bool) → (a && false || b) ≡ b
+    one true b = refl
+    one false b = refl
 
-pub first_beneath : (q : Pointer) (ps : List Pointer) (j : ℕ) (p : Pointer) → j < length ps → p ≡ get_or ps j p → is_prefix q p ≡ starts_beneath q (drop j ps)
-first_beneath q [] j p lt e = absurd (omega arith)
-first_beneath q (x ∷ ps) zero p lt e = ap (is_prefix q) e
-first_beneath q (x ∷ ps) (suc j) p lt e = first_beneath q ps j p (omega arith) e
+    each : (fs : List (ℕ × Pointer)) → AllByRecursion (λ e. meets x.1 e.1 ≡ false) fs → AllByRecursion (λ f. (nat_le f.0 k && has_earlier f (x ∷ es)) ≡ (nat_le f.0 k && has_earlier f es)) fs
+    each [] h = tt
+    each (f ∷ fs) h = (rw (meets_back x.1 f.1 h.0) (ap (λ b. nat_le f.0 k && b) (one (nat_lt x.0 f.0) (has_earlier f es))), each fs h.1)
 
--- ---- the walk over all paths
+-- ---- two that overlap
 
--- the first so many paths are apart from one another: what is left of the search for an overlap
-pub record Passed (paths : List Pointer) (number : ℕ) (seen rest : List Pointer) : Type 0 where
-  pub past : List Pointer
-  pub left : overlap_from 1 [] paths ≡ overlap_from (number + 1) past rest
-  pub same : HasSame past seen
-  pub apart : AreApart seen
-  pub count : number + length rest ≡ length paths
+-- the later one is found, and is not needed any more
+met : (k : ℕ) (e f : ℕ × Pointer) (es : List (ℕ × Pointer)) → e.0 < f.0 → meets f.1 e.1 ≡ true → overlap_by k (f ∷ e ∷ es) ≡ (nat_le f.0 k || overlap_by k (e ∷ es))
+met k e f es lt m = by (nat_le f.0 k) refl
+  where
+    there : has_earlier f (f ∷ e ∷ es) ≡ true
+    there =
+        or_right (nat_lt f.0 f.0 && meets f.1 f.1) (has_earlier f (e ∷ es))
+        (or_left (nat_lt e.0 f.0 && meets f.1 e.1) (has_earlier f es) (and_from (nat_lt e.0 f.0) (meets f.1 e.1) (lt-ltb e.0 f.0 lt) m))
 
-pub passed_start : (paths : List Pointer) → Passed paths 0 [] paths
-passed_start paths = record { past = []; left = refl; same = λ test. refl; apart = tt; count = omega arith }
+    by : (b : Bool) → nat_le f.0 k ≡ b → overlap_by k (f ∷ e ∷ es) ≡ (nat_le f.0 k || overlap_by k (e ∷ es))
+    by true i =
+        or_left (nat_le f.0 k && has_earlier f (f ∷ e ∷ es)) (list_any (λ g. nat_le g.0 k && has_earlier g (f ∷ e ∷ es)) (e ∷ es)) (and_from (nat_le f.0 k) (has_earlier f (f ∷ e ∷ es)) i there)
+        ∙ sym (or_left (nat_le f.0 k) (overlap_by k (e ∷ es)) i)
+    by false i = past k f (e ∷ es) (leb-false f.0 k i) ∙ ap (λ b. b || overlap_by k (e ∷ es)) (sym i)
 
-step_on : (k : ℕ) (past : List Pointer) (p : Pointer) (rest : List Pointer) → overlaps p past ≡ false → overlap_from k past (p ∷ rest) ≡ overlap_from (k + 1) (p ∷ past) rest
-step_on k past p rest e =
-    let next : suc k ≡ k + 1 = omega arith in
-    rw e (ap (λ n. overlap_from n (p ∷ past) rest) next)
+is_within_with : (k : ℕ) (found : Option ℕ) (n : ℕ) → is_within k (Some (with_number found n)) ≡ (is_within k found || nat_le n k)
+is_within_with k None n = refl
+is_within_with k (Some m) n = by (nat_le m k) (nat_le n k) refl refl
+  where
+    by : (a b : Bool) → nat_le m k ≡ a → nat_le n k ≡ b → nat_le (min m n) k ≡ (nat_le m k || nat_le n k)
+    by true b e f = let low = leb-true m k e in rw e (le-leb (min m n) k (omega arith))
+    by false true e f = let low = leb-true n k f in rw (e, f) (le-leb (min m n) k (omega arith))
+    by false false e f = let high = leb-false m k e in let high2 = leb-false n k f in rw (e, f) (lt-leb (min m n) k (omega arith))
 
-step_met : (k : ℕ) (past : List Pointer) (p : Pointer) (rest : List Pointer) → overlaps p past ≡ true → overlap_from k past (p ∷ rest) ≡ Some k
-step_met k past p rest e = rw e refl
+or_assoc : (a b c : Bool) → (a || (b || c)) ≡ ((a || b) || c)
+or_assoc true b c = refl
+or_assoc false b c = refl
 
-not_true : (b : Bool) → not b ≡ true → b ≡ false
-not_true true e = cc
-not_true false e = refl
+-- ---- in order
 
-not_false : (b : Bool) → not b ≡ false → b ≡ true
-not_false true e = refl
-not_false false e = cc
+-- what comes after a path that isn't beneath it overlaps none of those before
+beyond : (p q r : Pointer) → is_prefix p q ≡ false → is_lt (path_cmp q p) ≡ false → is_lt (path_cmp r p) ≡ false → is_lt (path_cmp r q) ≡ false → meets p r ≡ false
+beyond p q r e f g h = by (is_prefix p r) (is_prefix r p) refl refl
+  where
+    -- the order of p and q, and of q and r
+    under : is_prefix p r ≡ true → ⊥
+    under u = first (path_cmp p q) refl (path_cmp q r) refl
+      where
+        first : (o : Ordering) → path_cmp p q ≡ o → (s : Ordering) → path_cmp q r ≡ s → ⊥
+        first Less a Less b = let clash = sym (between p r q u a b) ∙ e in cc
+        first Less a Equal b = let same = same_path q r b in let clash = sym u ∙ (ap (is_prefix p) (sym same) ∙ e) in cc
+        first Less a Greater b = let back = rw (flip r q, b) at h in cc
+        first Equal a s b = let same = same_path p q a in let clash = sym (prefix_self p) ∙ (ap (is_prefix p) same ∙ e) in cc
+        first Greater a s b = let back = rw (flip q p, a) at f in cc
 
-pub passed_more : (paths : List Pointer) (n : ℕ) (seen new : List Pointer) (p : Pointer) (rest : List Pointer) → Passed paths n seen (p ∷ rest) → not (overlaps p seen) ≡ true → AreApart new → ((ps : List Pointer) → HasSame ps seen → HasSame (p ∷ ps) new) → Passed paths (n + 1) new rest
-passed_more paths n seen new p rest h e apart same = record {
-  past = p ∷ h.past;
-  left = h.left ∙ step_on (n + 1) h.past p rest (h.same (λ q. is_prefix p q || is_prefix q p) ∙ not_true (overlaps p seen) e);
-  same = same h.past h.same;
-  apart = apart;
-  count = let was = h.count in omega arith;
+    over : is_prefix r p ≡ true → ⊥
+    over u = last (path_cmp r p) refl
+      where
+        last : (o : Ordering) → path_cmp r p ≡ o → ⊥
+        last Less a = let back = rw a at g in cc
+        last Equal a = let same = same_path r p a in under (ap (is_prefix p) same ∙ prefix_self p)
+        last Greater a = above_first r p u a
+
+    by : (a b : Bool) → is_prefix p r ≡ a → is_prefix r p ≡ b → meets p r ≡ false
+    by true b i j = absurd (under i)
+    by false true i j = absurd (over j)
+    by false false i j = rw (i, j) refl
+
+all_beyond : (e f : ℕ × Pointer) (es : List (ℕ × Pointer)) → is_prefix e.1 f.1 ≡ false → is_lt (path_cmp f.1 e.1) ≡ false → AllByRecursion (λ x. is_lt (path_cmp x.1 e.1) ≡ false) es → AllByRecursion (λ x. is_lt (path_cmp x.1 f.1) ≡ false) es → AllByRecursion (λ x. meets e.1 x.1 ≡ false) es
+all_beyond e f [] apart up h k = tt
+all_beyond e f (x ∷ es) apart up h k = (beyond e.1 f.1 x.1 apart up h.0 k.0, all_beyond e f es apart up h.1 k.1)
+
+abbrev path_lt : Numbered → Numbered → Bool
+path_lt x y = is_lt (path_cmp x.path.now y.path.now)
+
+none_before : (x : Numbered) (xs : List Numbered) → ((j : ℕ) (d : Numbered) → j < length xs → path_lt (get_or xs j d) x ≡ false) → AllByRecursion (λ f. is_lt (path_cmp f.1 x.path.now) ≡ false) (map number_view xs)
+none_before x [] h = tt
+none_before x (y ∷ xs) h = (h 0 y (omega arith), none_before x xs (λ j d lt. h (suc j) d (omega arith)))
+
+pub in_order : (xs : List Numbered) → IsSortedBy (λ x y. is_lt (path_cmp x.path.now y.path.now)) xs → AreInOrder (map number_view xs)
+in_order [] up = tt
+in_order (x ∷ xs) up = (
+  none_before x xs (λ j d lt. sorted_far path_lt (ranks_by path_order (λ x. x.path.now)) (x ∷ xs) up 0 (suc j) d (omega arith) (omega arith)),
+  in_order xs (λ k d low high. let next : suc k + 1 ≡ suc (k + 1) = omega arith in subst (λ n. path_lt (get_or (x ∷ xs) n d) (get_or xs k d) ≡ false) next (up (suc k) d (omega arith) (omega arith))),
+)
+
+-- ---- each number once
+
+once_tail : (e : ℕ × Pointer) (es : List (ℕ × Pointer)) → AreOnce (e ∷ es) → AreOnce es
+once_tail e es h m = let all = h m in omega arith
+
+once_without : (e f : ℕ × Pointer) (es : List (ℕ × Pointer)) → AreOnce (e ∷ f ∷ es) → AreOnce (e ∷ es)
+once_without e f es h m = let all = h m in omega arith
+
+twice : (e f : ℕ × Pointer) (es : List (ℕ × Pointer)) → AreOnce (e ∷ f ∷ es) → e.0 ≡ f.0 → ⊥
+twice e f es h same =
+    let all : (if nat_eq e.0 e.0 then 1 else 0) + ((if nat_eq f.0 e.0 then 1 else 0) + count_of e.0 es) ≤ 1 = h e.0 in
+    let both : 1 + (1 + count_of e.0 es) ≤ 1 = rw (eq-eqb e.0 e.0 refl, eq-eqb f.0 e.0 (sym same)) at all in absurd (omega arith)
+
+none_numbered : (m k : ℕ) (ps : List Pointer) → m < k → count_of m (numbered k ps) ≡ 0
+none_numbered m k [] lt = refl
+none_numbered m k (p ∷ ps) lt = let none = none_numbered m (suc k) ps (omega arith) in rw (ne_eqb k m (λ e. omega arith)) (omega arith)
+
+once_numbered : (k : ℕ) (ps : List Pointer) → AreOnce (numbered k ps)
+once_numbered k [] m = omega arith
+once_numbered k (p ∷ ps) m = by (nat_eq k m) refl (once_numbered (suc k) ps m)
+  where
+    by : (b : Bool) → nat_eq k m ≡ b → count_of m (numbered (suc k) ps) ≤ 1 → count_of m ((k, p) ∷ numbered (suc k) ps) ≤ 1
+    by true e more = let same = eqb-true k m e in let none = none_numbered m (suc k) ps (omega arith) in rw (e, none) (omega arith)
+    by false e more = rw e (omega arith)
+
+count_sum : (m : ℕ) (es : List (ℕ × Pointer)) → count_of m es ≡ sum_by (λ e. if nat_eq e.0 m then 1 else 0) es
+count_sum m [] = refl
+count_sum m (e ∷ es) = ap (λ n. (if nat_eq e.0 m then 1 else 0) + n) (count_sum m es) ∙ sym (sum_by-cons (λ e. if nat_eq e.0 m then 1 else 0) e es)
+
+pub once_moved : (ps : List Pointer) (es : List (ℕ × Pointer)) → IsPermutation (numbered 1 ps) es → AreOnce es
+once_moved ps es h m = subst (λ n. n ≤ 1) (count_sum m (numbered 1 ps) ∙ (sym (sum_by-IsPermutation (λ e. if nat_eq e.0 m then 1 else 0) (numbered 1 ps) es h) ∙ sym (count_sum m es))) (once_numbered 1 ps m)
+
+-- ---- the walk over the items in order
+
+-- the item at i of a list, and those after it
+pub drop_view : (xs : List Numbered) (i : ℕ) (x : Numbered) → i < length xs → x ≡ get_or xs i x → map number_view (drop i xs) ≡ number_view x ∷ map number_view (drop (i + 1) xs)
+drop_view [] i x lt e = absurd (omega arith)
+drop_view (y ∷ xs) zero x lt e = ap (λ z. number_view z ∷ map number_view xs) (sym e)
+drop_view (y ∷ xs) (suc i) x lt e =
+    let next : suc (i + 1) ≡ suc i + 1 = omega arith in
+    drop_view xs i x (omega arith) e ∙ ap (λ n. number_view x ∷ map number_view (drop n (y ∷ xs))) next
+
+pub first_view : (xs : List Numbered) (x : Numbered) → Some x ≡ slice_get xs 0 → map number_view xs ≡ number_view x ∷ map number_view (drop 1 xs)
+first_view [] x e = cc
+first_view (y ∷ xs) x e = let same : y ≡ x = cc in ap (λ z. number_view z ∷ map number_view xs) same
+
+-- what was found, and the items that are left, tell what the whole does
+pub record Passed (whole : List (ℕ × Pointer)) (found : Option ℕ) (left : List (ℕ × Pointer)) : Type 0 where
+  pub told : (k : ℕ) → (is_within k found || overlap_by k left) ≡ overlap_by k whole
+  pub order : AreInOrder left
+  pub once : AreOnce left
+
+pub passed_start : (es : List (ℕ × Pointer)) → AreInOrder es → AreOnce es → Passed es None es
+passed_start es order once = record { told = λ k. refl; order = order; once = once }
+
+pub passed_aside : (whole : List (ℕ × Pointer)) (found : Option ℕ) (e f : ℕ × Pointer) (es : List (ℕ × Pointer)) → Passed whole found (e ∷ f ∷ es) → is_prefix e.1 f.1 ≡ false → Passed whole found (f ∷ es)
+passed_aside whole found e f es h apart =
+    let up = h.order.0.0 in
+    let all : AllByRecursion (λ x. meets e.1 x.1 ≡ false) (f ∷ es) = (beyond e.1 f.1 f.1 apart up up (rw (tied_itself path_order f.1) refl), all_beyond e f es apart up h.order.0.1 h.order.1.0) in record {
+      told = λ k. ap (λ b. is_within k found || b) (sym (aside k e (f ∷ es) all)) ∙ h.told k;
+      order = h.order.1;
+      once = once_tail e (f ∷ es) h.once;
+    }
+
+met_then : (whole : List (ℕ × Pointer)) (found : Option ℕ) (e f : ℕ × Pointer) (es : List (ℕ × Pointer)) → ((k : ℕ) → (is_within k found || overlap_by k (f ∷ e ∷ es)) ≡ overlap_by k whole) → e.0 < f.0 → meets f.1 e.1 ≡ true → (k : ℕ) → (is_within k (Some (with_number found f.0)) || overlap_by k (e ∷ es)) ≡ overlap_by k whole
+met_then whole found e f es h lt m k =
+    ap (λ b. b || overlap_by k (e ∷ es)) (is_within_with k found f.0)
+    ∙ (sym (or_assoc (is_within k found) (nat_le f.0 k) (overlap_by k (e ∷ es))) ∙ (ap (λ b. is_within k found || b) (sym (met k e f es lt m)) ∙ h k))
+
+pub passed_later : (whole : List (ℕ × Pointer)) (found : Option ℕ) (e f : ℕ × Pointer) (es : List (ℕ × Pointer)) → Passed whole found (e ∷ f ∷ es) → is_prefix e.1 f.1 ≡ true → e.0 < f.0 → Passed whole (Some (with_number found f.0)) (e ∷ es)
+passed_later whole found e f es h under lt = record {
+  told = met_then whole found e f es (λ k. ap (λ b. is_within k found || b) (swapped k f e es) ∙ h.told k) lt (or_right (is_prefix f.1 e.1) _ under);
+  order = (h.order.0.1, h.order.1.1);
+  once = once_without e f es h.once;
 }
 
-pub passed_met : (paths : List Pointer) (n : ℕ) (seen : List Pointer) (p : Pointer) (rest : List Pointer) → Passed paths n seen (p ∷ rest) → not (overlaps p seen) ≡ false → Some (n + 1) ≡ overlap_from 1 [] paths
-passed_met paths n seen p rest h e = sym (h.left ∙ step_met (n + 1) h.past p rest (h.same (λ q. is_prefix p q || is_prefix q p) ∙ not_false (overlaps p seen) e))
+pub passed_earlier : (whole : List (ℕ × Pointer)) (found : Option ℕ) (e f : ℕ × Pointer) (es : List (ℕ × Pointer)) → Passed whole found (e ∷ f ∷ es) → is_prefix e.1 f.1 ≡ true → f.0 ≤ e.0 → Passed whole (Some (with_number found e.0)) (f ∷ es)
+passed_earlier whole found e f es h under le =
+    let apart : e.0 ≡ f.0 → ⊥ = twice e f es h.once in
+    let lt : f.0 < e.0 = omega (arith, apart) in record {
+      told = met_then whole found f e es h.told lt (or_left _ (is_prefix f.1 e.1) under);
+      order = h.order.1;
+      once = once_tail e (f ∷ es) h.once;
+    }
 
-none_left : (k : ℕ) (past rest : List Pointer) → length rest ≡ 0 → overlap_from k past rest ≡ None
-none_left k past [] e = refl
-none_left k past (p ∷ rest) e = absurd (omega arith)
+or_nothing : (a : Bool) → (a || false) ≡ a
+or_nothing true = refl
+or_nothing false = refl
 
-pub passed_end : (paths : List Pointer) (n : ℕ) (seen rest : List Pointer) → Passed paths n seen rest → length rest ≡ 0 → None ≡ overlap_from 1 [] paths
-passed_end paths n seen rest h e = sym (h.left ∙ none_left (n + 1) h.past rest e)
+pub passed_end : (whole : List (ℕ × Pointer)) (found : Option ℕ) (e : ℕ × Pointer) → Passed whole found (e ∷ []) → IsFirst found whole
+passed_end whole found e h k = sym (ap (λ b. is_within k found || b) (aside k e [] tt) ∙ or_nothing (is_within k found)) ∙ h.told k
+
+-- ---- the items in the order of their numbers
+
+past_all : (k j : ℕ) (ps : List Pointer) (es : List (ℕ × Pointer)) → k < j → overlap_by k (numbered j ps ++ es) ≡ overlap_by k es
+past_all k j [] es lt = refl
+past_all k j (p ∷ ps) es lt = past k (j, p) (numbered (suc j) ps ++ es) lt ∙ past_all k (suc j) ps es (omega arith)
+
+earlier_all : (j : ℕ) (p : Pointer) (es : List (ℕ × Pointer)) → AllByRecursion (λ e. e.0 < j) es → has_earlier (j, p) es ≡ overlaps p (map (λ e. e.1) es)
+earlier_all j p [] h = refl
+earlier_all j p (e ∷ es) h = rw (lt-ltb e.0 j h.0) (ap (λ b. meets p e.1 || b) (earlier_all j p es h.1))
+
+none_met : (p : Pointer) (es : List (ℕ × Pointer)) → overlaps p (map (λ e. e.1) es) ≡ false → AllByRecursion (λ e. meets p e.1 ≡ false) es
+none_met p [] h = tt
+none_met p (e ∷ es) h = let parts = or_parts (meets p e.1) (overlaps p (map (λ e. e.1) es)) h in (parts.0, none_met p es parts.1)
+
+later : (j : ℕ) (es : List (ℕ × Pointer)) → AllByRecursion (λ e. e.0 < j) es → AllByRecursion (λ e. e.0 < suc j) es
+later j [] h = tt
+later j (e ∷ es) h = let lt = h.0 in (omega arith, later j es h.1)
+
+first_from : (j : ℕ) (es : List (ℕ × Pointer)) (ps : List Pointer) → AllByRecursion (λ e. e.0 < j) es → ((k : ℕ) → overlap_by k es ≡ false) → (k : ℕ) → is_within k (overlap_from j (map (λ e. e.1) es) ps) ≡ overlap_by k (numbered j ps ++ es)
+first_from j es [] h none k = sym (none k)
+first_from j es (p ∷ ps) h none k =
+    by (overlaps p (map (λ e. e.1) es)) refl
+    (λ e. first_from (suc j) ((j, p) ∷ es) ps (omega arith, later j es h) (λ n. aside n (j, p) es (none_met p es e) ∙ none n) k
+    ∙ sym (moved_alike k (numbered (suc j) ps ++ (j, p) ∷ es) ((j, p) ∷ (numbered (suc j) ps ++ es)) (IsPermutation-middle (numbered (suc j) ps) (j, p) es)))
+  where
+    found : (b : Bool) → nat_le j k ≡ b → overlaps p (map (λ e. e.1) es) ≡ true → nat_le j k ≡ overlap_by k ((j, p) ∷ (numbered (suc j) ps ++ es))
+    found true i e =
+        let there = list_any-append (λ e. nat_lt e.0 j && meets p e.1) (numbered (suc j) ps) es ∙ or_right _ (has_earlier (j, p) es) (earlier_all j p es h ∙ e) in
+        rw (i, there) (sym (or_left _ _ (or_right (nat_lt j j && meets p p) true refl)))
+    found false i e = i ∙ sym (past_all k j (p ∷ ps) es (leb-false j k i) ∙ none k)
+
+    by : (b : Bool) → overlaps p (map (λ e. e.1) es) ≡ b
+        → (overlaps p (map (λ e. e.1) es) ≡ false → is_within k (overlap_from (suc j) (p ∷ map (λ e. e.1) es) ps) ≡ overlap_by k ((j, p) ∷ (numbered (suc j) ps ++ es)))
+        → is_within k (overlap_from j (map (λ e. e.1) es) (p ∷ ps)) ≡ overlap_by k ((j, p) ∷ (numbered (suc j) ps ++ es))
+    by true e more = rw e (found (nat_le j k) refl e)
+    by false e more = rw e (more e)
+
+same_first : (a b : Option ℕ) → ((k : ℕ) → is_within k a ≡ is_within k b) → a ≡ b
+same_first None None h = refl
+same_first None (Some n) h = let clash : false ≡ true = h n ∙ le-leb n n (omega arith) in cc
+same_first (Some m) None h = let clash : false ≡ true = sym (h m) ∙ le-leb m m (omega arith) in cc
+same_first (Some m) (Some n) h =
+    let one = leb-true m n (h n ∙ le-leb n n (omega arith)) in
+    let other = leb-true n m (sym (h m) ∙ le-leb m m (omega arith)) in ap Some (omega arith)
+
+pub first_is : (paths : List Pointer) (es : List (ℕ × Pointer)) (first : Option ℕ) → IsPermutation (numbered 1 paths) es → IsFirst first es → first ≡ overlap_from 1 [] paths
+first_is paths es first moved h =
+    same_first first (overlap_from 1 [] paths)
+    (λ k. h k ∙ (moved_alike k (numbered 1 paths) es moved ∙ sym (first_from 1 [] paths tt (λ n. refl) k ∙ ap (overlap_by k) (append-nil (numbered 1 paths)))))
+
+-- one more path has its number
+pub numbered_more : (paths : List Pointer) (es : List Numbered) (i : ℕ) (x : Numbered) → x.number ≡ i + 1 → slice_get paths i ≡ Some x.path.now → map number_view es ++ numbered (i + 1) (drop i paths) ≡ numbered 1 paths
+    → map number_view (es ++ x ∷ []) ++ numbered (i + 1 + 1) (drop (i + 1) paths) ≡ numbered 1 paths
+numbered_more paths es i x number path h =
+    let next : suc (i + 1) ≡ i + 1 + 1 = omega arith in
+    let view : number_view x ≡ (i + 1, x.path.now) = ap (λ n. (n, x.path.now)) number in
+    ap (λ l. l ++ numbered (i + 1 + 1) (drop (i + 1) paths)) (map-append number_view es (x ∷ []))
+    ∙ (append_assoc (map number_view es) (number_view x ∷ []) (numbered (i + 1 + 1) (drop (i + 1) paths))
+    ∙ (ap (λ v. map number_view es ++ v ∷ numbered (i + 1 + 1) (drop (i + 1) paths)) view
+    ∙ (ap (λ n. map number_view es ++ (i + 1, x.path.now) ∷ numbered n (drop (i + 1) paths)) (sym next)
+    ∙ (ap (λ ps. map number_view es ++ numbered (i + 1) ps) (sym (drop_at paths i x.path.now path)) ∙ h))))

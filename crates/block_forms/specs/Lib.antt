@@ -2,6 +2,6 @@ pub mod Exact
 pub mod Metadata
 pub mod Lines
 pub mod Paths
-pub mod Apart
+pub mod Numbered
 pub mod Faults
 pub mod Parts

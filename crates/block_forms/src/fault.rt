@@ -101,7 +101,7 @@ fn items_fault(
         Err(PathsRead::NoMemory) => return Err(NoMemory),
     };
     let deep = is_deep(&paths, items);
-    if let Some(number) = first_overlap(alloc, paths)? {
+    if let Some(number) = first_overlap(alloc, &paths)? {
         return Ok(Some(BlockWhy::Overlap(number)));
     }
     if let Some(why) = holes_fault(alloc, doc, count)? {

@@ -1,15 +1,21 @@
 // Paths that stand above or beneath one another.
-ghost use Rattle.std.specs.Prelude.{◌≡◌, ◌≤◌, [], List as ListOf, not, IfOk, length, MatchResult, take, drop, ◌∷◌, OnOk, vec_len};
-ghost use Rattle.std.specs.List.{insert as with_inserted};
-ghost use Rattle.std.specs.Bool.{OnTrue};
+ghost use Rattle.std.specs.Prelude.{◌≡◌, ◌≤◌, [], List as ListOf, IfOk, length, map as list_map, Some};
+ghost use Rattle.std.specs.List.Sorted.{IsPermutation};
 ghost use Rattle.spec_documents.specs.Place.{Pointer as Path};
-ghost use Rattle.block_forms.specs.Paths.{path_cmp, overlaps, overlap_from};
-ghost use Rattle.block_forms.specs.Apart.{AreApart, HasSame, ends_above, starts_beneath, FoundAt, BelongsAt};
+ghost use Rattle.block_forms.specs.Paths.{path_cmp, overlap_from};
+ghost use Rattle.block_forms.specs.Numbered.{number_view, numbered, IsFirst, with_number, AreInOrder, AreOnce};
 
 use json_ptr::{Pointer, is_prefix};
 use n32_values::{List, NoMemory};
-use std::alloc::Global;
+use std::alloc::{AllocError, Global};
 use std::cmp::Ordering;
+
+// The path of an item, and the item's number from 1.
+#[derive(Clone, Copy, Drop)]
+struct Numbered<'a> {
+    number: u32,
+    path: &'a Pointer,
+}
 
 // Orders paths by their first tokens that differ. A path comes before those beneath it.
 fn compare(left: &Pointer, right: &Pointer) -> Ordering
@@ -25,76 +31,67 @@ fn compare(left: &Pointer, right: &Pointer) -> Ordering
     left.len().cmp(&right.len())
 }
 
-fn search(seen: &[Pointer], path: &Pointer) -> Result<usize, usize>
-    requires { AreApart seen.now }
-    ensures { MatchResult result (FoundAt path.now seen.now) (BelongsAt path.now seen.now) }
+fn with_numbers(alloc: Global, paths: &List<Pointer>) -> Result<Vec<Numbered<'_>>, AllocError>
+    requires { length paths.now ≤ 4096 }
+    ensures { IfOk result (λ items. list_map number_view items.items ≡ numbered 1 paths.now) }
 {
-    seen.binary_search_by(|other| compare(other, path))
+    let mut items = Vec::new(alloc);
+    for i in 0..paths.len() {
+        items.push(Numbered {
+            number: i as u32 + 1,
+            path: paths.item(i),
+        })?;
+    }
+    Ok(items)
 }
 
-// Whether the path before place `i` is above this one.
-fn ends_above(seen: &[Pointer], i: usize, path: &Pointer) -> bool
-    requires { i ≤ length seen.now }
-    ensures { result ≡ ends_above path.now (take i seen.now) }
+fn sort(items: &mut Vec<Numbered<'_>>)
+    ensures moved { IsPermutation items.old.items items.new.items }
+    ensures order { AreInOrder (list_map number_view items.new.items) }
 {
-    0 < i && is_prefix(&seen[i - 1], path)
+    items.sort_unstable_by(|left, right| compare(left.path, right.path));
 }
 
-// Whether the path at place `i` is beneath this one.
-fn starts_beneath(seen: &[Pointer], i: usize, path: &Pointer) -> bool
-    ensures { result ≡ starts_beneath path.now (drop i seen.now) }
+fn least(found: Option<u32>, number: u32) -> u32
+    ensures { result ≡ with_number found number }
 {
-    i < seen.len() && is_prefix(path, &seen[i])
-}
-
-// Whether a path overlaps one of those that were seen, beside which it belongs at place `i`.
-fn meets_neighbour(seen: &[Pointer], i: usize, path: &Pointer) -> bool
-    requires apart { AreApart seen.now }
-    requires place { BelongsAt path.now seen.now i }
-    ensures { result ≡ overlaps path.now seen.now }
-{
-    ends_above(seen, i, path) || starts_beneath(seen, i, path)
-}
-
-fn insert(seen: &mut Vec<Pointer>, i: usize, path: Pointer) -> Result<(), NoMemory>
-    requires { i ≤ vec_len seen.old }
-    ensures { OnOk result (seen.new.items ≡ with_inserted seen.old.items i path) }
-{
-    match seen.insert(i, path) {
-        Ok(()) => Ok(()),
-        Err(_) => Err(NoMemory),
+    match found {
+        Some(found) => found.min(number),
+        None => number,
     }
 }
 
-// Adds a path to those that were seen, which are in order and apart, unless it overlaps one of them.
-fn add(seen: &mut Vec<Pointer>, path: Pointer) -> Result<bool, NoMemory>
-    requires { AreApart seen.old.items }
-    ensures added { IfOk result (λ added. added ≡ not (overlaps path seen.old.items)) }
-    ensures apart { IfOk result (λ added. OnTrue added (AreApart seen.new.items)) }
-    ensures same { IfOk result (λ added. OnTrue added ((ps : ListOf Path) → HasSame ps seen.old.items → HasSame (path ∷ ps) seen.new.items)) }
+// The number of the first item that overlaps an earlier one, of items in the order of their paths.
+// Those beneath a path follow it. Of two that overlap the later one is found, and is passed over from
+// then on: whatever else it overlaps, the number of that overlap is no lesser.
+fn first_in_order(items: &[Numbered<'_>]) -> Option<u32>
+    requires order { AreInOrder (list_map number_view items.now) }
+    requires once { AreOnce (list_map number_view items.now) }
+    ensures { IsFirst result (list_map number_view items.now) }
 {
-    let Err(i) = search(seen, &path) else {
-        return Ok(false);
-    };
-    if meets_neighbour(seen, i, &path) {
-        return Ok(false);
-    }
-    insert(seen, i, path)?;
-    Ok(true)
-}
-
-// The number, from 1, of the first path that is above or beneath an earlier one, or is one.
-pub(crate) fn first_overlap(alloc: Global, paths: List<Pointer>) -> Result<Option<u32>, NoMemory>
-    requires { length paths ≤ 4096 }
-    ensures { IfOk result (λ k. k ≡ overlap_from 1 [] paths) }
-{
-    let mut seen = Vec::new(alloc);
-    let mut number = 0;
-    for path in paths.into_vec() {
-        number += 1;
-        if !add(&mut seen, path)? {
-            return Ok(Some(number));
+    let mut kept = *items.first()?;
+    let mut found = None;
+    for i in 1..items.len() {
+        let next = items[i];
+        if !is_prefix(kept.path, next.path) {
+            kept = next;
+        } else if kept.number < next.number {
+            found = Some(least(found, next.number));
+        } else {
+            found = Some(least(found, kept.number));
+            kept = next;
         }
     }
-    Ok(None)
+    found
+}
+
+// The number, from 1, of the first path that is above or beneath an earlier one, or is one. The time
+// grows with the number of paths times its logarithm.
+pub(crate) fn first_overlap(alloc: Global, paths: &List<Pointer>) -> Result<Option<u32>, NoMemory>
+    requires { length paths.now ≤ 4096 }
+    ensures { IfOk result (λ k. k ≡ overlap_from 1 [] paths.now) }
+{
+    let mut items = with_numbers(alloc, paths)?;
+    sort(&mut items);
+    Ok(first_in_order(&items))
 }

@@ -159,6 +159,7 @@ fn the_first_fault_past_the_members_is_named(rt: HostRuntime) -> Result<(), Fail
         (" 1;/a 2", 0, "OVERLAP 2"),
         ("/a/b 1;/a/c 2;/ab 3;/a- 4;/a~1b 5", 0, "BLOCK"),
         ("/a/b 1;/a/d 2;/a/b/c 3", 0, "OVERLAP 3"),
+        ("/a 1;/a/c 2;/a/b 3", 0, "OVERLAP 2"),
         (
             "/a {\"encBlockIndex\":1};/b [{\"encBlockIndex\":0}]",
             2,

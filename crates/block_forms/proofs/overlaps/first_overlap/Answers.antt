@@ -1,30 +1,23 @@
-use Rattle.std.proofs.Common.{◌≡◌, List, [], length, subst, sym, ◌∙◌}
-use Rattle.std.specs.Vec.Iter.{into_iter_items}
+use Rattle.std.proofs.Common.{ℕ, List, map, sym, subst}
+use Rattle.std.specs.List.Sorted.{IsPermutation}
+use Rattle.std.proofs.lemmas.List.Sorted.{IsPermutation-map}
 use Rattle.spec_documents.specs.Place.{Pointer}
-use Rattle.block_forms.proofs.Overlap.{Passed, passed_start, passed_more, passed_met, passed_end}
+use Rattle.block_forms.specs.declared.overlaps.Numbered.{Numbered}
+use Rattle.block_forms.specs.Numbered.{number_view, numbered, IsFirst, AreOnce}
+use Rattle.block_forms.proofs.Overlap.{once_moved, first_is}
 use Rattle.block_forms.proofs.overlaps.first_overlap.Goals as goal
 
-pub loop-path-init : goal.loop-path-init
-loop-path-init c =
-    let none = sym c.new-seen.ensures.items in
-    let all = sym (c.into_iter-path-iterator.ensures.into_iter_gives.0 ∙ c.into_vec-path-items.ensures) in
-    subst (λ (seen : List Pointer). Passed c.args.paths 0 seen (into_iter_items c.into_iter-path-iterator.result)) none
-    (subst (λ (rest : List Pointer). Passed c.args.paths 0 [] rest) all (passed_start c.args.paths))
-
-pub loop-path-preserved : goal.loop-path-preserved
-loop-path-preserved c =
-    let next = subst (λ (rest : List Pointer). Passed c.args.paths c.loop-path.number c.loop-path.seen.items rest) c.in-Some.ensures.steps.0 c.loop-path.invariant in
-    passed_more c.args.paths c.loop-path.number c.loop-path.seen.items c.add.new.seen.items c.in-Some.path (into_iter_items c.next.new.self) next
-    (sym c.in_ok-add.ensures.added ∙ c.if-not-branch.false) (rw c.if-not-branch.false at c.in_ok-add.ensures.apart) (rw c.if-not-branch.false at c.in_ok-add.ensures.same)
-
-pub returns-then-not-branch : goal.returns-then-not-branch
-returns-then-not-branch c =
-    let next = subst (λ (rest : List Pointer). Passed c.args.paths c.loop-path.number c.loop-path.seen.items rest) c.in-Some.ensures.steps.0 c.loop-path.invariant in
-    passed_met c.args.paths c.loop-path.number c.loop-path.seen.items c.in-Some.path (into_iter_items c.next.new.self) next
-    (sym c.in_ok-add.ensures.added ∙ c.if-not-branch.true)
+pub first_in_order-requires-clause-once : goal.first_in_order-requires-clause-once
+first_in_order-requires-clause-once c =
+    let sorted = c.sort.new.items.items in
+    let moved : IsPermutation (numbered 1 c.args.paths.now) (map number_view sorted) =
+    subst (λ (es : List (ℕ × Pointer)). IsPermutation es (map number_view sorted)) c.in_ok-items.ensures (IsPermutation-map number_view c.in_ok-items.items.items sorted c.sort.ensures.moved) in
+    subst (λ (items : List Numbered). AreOnce (map number_view items)) (sym c.deref.ensures.value) (once_moved c.args.paths.now (map number_view sorted) moved)
 
 pub returns : goal.returns
 returns c =
-    let whole = c.loop-path.path-iterator.rest.ok in
-    let none : length (into_iter_items c.loop-path.path-iterator) ≡ 0 = sym whole.0 ∙ c.in-None.ensures.steps.0 in
-    passed_end c.args.paths c.loop-path.number c.loop-path.seen.items (into_iter_items c.loop-path.path-iterator) c.loop-path.invariant none
+    let sorted = c.sort.new.items.items in
+    let moved : IsPermutation (numbered 1 c.args.paths.now) (map number_view sorted) =
+    subst (λ (es : List (ℕ × Pointer)). IsPermutation es (map number_view sorted)) c.in_ok-items.ensures (IsPermutation-map number_view c.in_ok-items.items.items sorted c.sort.ensures.moved) in
+    first_is c.args.paths.now (map number_view sorted) c.first_in_order.result moved
+    (subst (λ (items : List Numbered). IsFirst c.first_in_order.result (map number_view items)) c.deref.ensures.value c.first_in_order.ensures)
