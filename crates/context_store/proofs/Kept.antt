@@ -49,6 +49,7 @@ bad_here (Some bs) now k rs found b (Journal j) front few stays loads is h =
       text = b;
       there = sym (found_there bs now found k stays loads) ∙ is;
       bad = past k (IsNoRecord b) h.1 few;
+      few = few;
       before = rs;
       good = front;
     })

@@ -1,6 +1,8 @@
 -- A store of records, and the keeper below it.
-use Rattle.std.specs.Prelude.{◌≡◌, ◌⊎◌, ◌≤◌, ⊤, ℕ, Bool, true, List, [], ◌∷◌, take, slice_get, Option, Some, IfSome}
+use Rattle.std.specs.Prelude.{◌≡◌, ◌⊎◌, ◌≤◌, ⊤, ℕ, Bool, true, List, [], ◌∷◌, take, slice_get, Option, Some, IfSome, IsTrue}
+use Rattle.std.specs.List.{list_all}
 use Rattle.spec_protocol.specs.Records.{Record, record_limit}
+use Rattle.spec_protocol.specs.RecordDocument.{is_well_named}
 use Rattle.session_records.specs.Reading.{ReadsRecord}
 use Rattle.context_store.specs.declared.faults.OpenFault.{OpenFault}
 use Rattle.context_store.specs.declared.faults.OpenFault.TheVariants.{Journal, Keeper, NoMemory}
@@ -15,6 +17,10 @@ AreRecords (b ∷ bs) (r ∷ rs) = ReadsRecord b r × AreRecords bs rs
 -- what a keeper tells, if it does, are these records
 abbrev pub Holds : Option (List (List ℕ)) → List Record → Type 0
 Holds held records = IfSome held (λ texts. AreRecords texts records)
+
+-- the names of nodes and intermediaries in these records are in their grammar
+abbrev pub AreNamed : List Record → Type 0
+AreNamed records = IsTrue (list_all is_well_named records)
 
 -- a store: its records, and whether they are still those that are held
 pub record Stored : Type 0 where
@@ -33,6 +39,7 @@ pub record IsFirstBad (texts : List (List ℕ)) (k : ℕ) : Type 0 where
   pub text : List ℕ
   pub there : slice_get texts k ≡ Some text
   pub bad : IsNoRecord text ⊎ (k ≡ record_limit)
+  pub few : k ≤ record_limit
   pub before : List Record
   pub good : AreRecords (take k texts) before
 

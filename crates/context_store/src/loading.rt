@@ -1,11 +1,12 @@
 // The records of a keeper are read.
-ghost use Rattle.std.specs.Prelude.{◌≡◌, ◌<◌, ◌≤◌, [], ◌∷◌, ◌++◌, map, length, IfOk, OnOk, IfErr, IsErrOf};
+ghost use Rattle.std.specs.Prelude.{◌≡◌, ◌<◌, ◌≤◌, [], ◌∷◌, ◌++◌, map, length, IfOk, OnOk, IfErr, IsErrOf, IsTrue};
 ghost use Rattle.n32_outside.specs.Causes.{Rose};
 ghost use Rattle.n32_outside.specs.Contents.{Stays};
 ghost use Rattle.spec_protocol.specs.Records.{record_limit};
+ghost use Rattle.spec_protocol.specs.RecordDocument.{is_well_named};
 ghost use Rattle.session_records.specs.View.{record_view};
 ghost use Rattle.session_records.specs.Reading.{ReadsRecord};
-ghost use Rattle.context_store.specs.Stores.{Holds, NamesBad, RefusesText};
+ghost use Rattle.context_store.specs.Stores.{AreNamed, Holds, NamesBad, RefusesText};
 
 use crate::faults::OpenFault;
 use crate::store::RECORD_LIMIT;
@@ -16,6 +17,7 @@ use std::alloc::Global;
 // The record of the held text of this number.
 fn read_text(alloc: Global, number: u64, text: &[u8]) -> Result<Record, OpenFault>
     ensures ok { IfOk result (λ r. ReadsRecord text.now (record_view r)) }
+    ensures named { IfOk result (λ r. IsTrue (is_well_named (record_view r))) }
     ensures room { OnOk result (number < record_limit) }
     ensures refused { IfErr result (RefusesText number text.now) }
 {
@@ -46,6 +48,7 @@ pub(crate) fn read_records<K: Keeper>(
 ) -> Result<Vec<Record>, OpenFault>
     ensures ok { IfOk result (λ records. Holds (K.held keeper.old) (map record_view records.items)) }
     ensures few { IfOk result (λ records. length records.items ≤ record_limit) }
+    ensures named { IfOk result (λ records. AreNamed (map record_view records.items)) }
     ensures same { Stays (K.held keeper.old) (K.held keeper.new) }
     ensures journal { IfErr result (NamesBad (K.held keeper.old)) }
     ensures later { K.faults keeper.old ≤ K.faults keeper.new }

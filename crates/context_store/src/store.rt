@@ -1,12 +1,13 @@
 // The store.
-ghost use Rattle.std.specs.Prelude.{◌≡◌, ◌<◌, ◌≤◌, ◌⊎◌, [], ◌∷◌, ◌++◌, true, false, map, length, option_map, Option, Ok, IfOk, OnOk, OnErr, IfErr, IsErrOf, IsTrue};
+ghost use Rattle.std.specs.Prelude.{◌≡◌, ◌<◌, ◌≤◌, ◌⊎◌, [], ◌∷◌, ◌++◌, true, false, map, length, option_map, Option, Ok, IfSome, IfOk, OnOk, OnErr, IfErr, IsErrOf, IsTrue};
 ghost use Rattle.n32_outside.specs.Causes.{Rose};
 ghost use Rattle.n32_outside.specs.Contents.{Stays, Gains};
 ghost use Rattle.spec_protocol.specs.Records as spec;
-ghost use Rattle.spec_protocol.specs.RecordDocument.{is_well_named};
+ghost use Rattle.spec_documents.specs.Text.{is_node_name};
+ghost use Rattle.spec_protocol.specs.RecordDocument.{are_ipx, is_well_named};
 ghost use Rattle.http_message.specs.Reading.{kind_view};
 ghost use Rattle.session_records.specs.View.{context_view, key_set_view, record_view};
-ghost use Rattle.session_records.specs.Reading.{written};
+ghost use Rattle.session_records.specs.Reading.{ReadsRecord, written};
 ghost use Rattle.context_store.specs.Stores.{HasNoBad, IsConsistent, NamesBad};
 
 use crate::faults::{AddFault, OpenFault};
@@ -36,13 +37,13 @@ impl Model for Store {
     ghost use Rattle.std.specs.Prelude.{◌≤◌, length, map};
     ghost use Rattle.spec_protocol.specs.Records.{record_limit};
     ghost use Rattle.session_records.specs.View.{record_view};
-    ghost use Rattle.context_store.specs.Stores.{Stored};
+    ghost use Rattle.context_store.specs.Stores.{AreNamed, Stored};
 
     ghost Value = { Stored };
 
     ghost view = { λ s. record { records = map record_view s.records.items; fresh = s.fresh } };
 
-    ghost invariant = { λ s. length s.records.items ≤ record_limit };
+    ghost invariant = { λ s. (length s.records.items ≤ record_limit) × AreNamed (map record_view s.records.items) };
 }
 
 /// A stale store without records. It takes no memory.
@@ -134,6 +135,8 @@ impl Store {
         ensures stale { IsErrOf result AddFault.Keeper → self.new.fresh ≡ false }
         ensures perhaps { IsErrOf result AddFault.Keeper → Stays (K.held keeper.old) (K.held keeper.new)
             ⊎ Gains (K.held keeper.old) (K.held keeper.new) (written (record_view item)) }
+        ensures read_back { OnOk result (ReadsRecord (written (record_view item)) (record_view item)) }
+        ensures perhaps_read { IsErrOf result AddFault.Keeper → ReadsRecord (written (record_view item)) (record_view item) }
         ensures as_it_was { (IsErrOf result AddFault.Limit ⊎ IsErrOf result AddFault.NoMemory) → (self.new ≡ self.old) × Stays (K.held keeper.old) (K.held keeper.new) }
         ensures later { K.faults keeper.old ≤ K.faults keeper.new }
         ensures failed { IsErrOf result AddFault.Keeper → Rose (K.faults keeper.old) (K.faults keeper.new) }
@@ -167,9 +170,11 @@ impl Store {
     }
 
     /// The context that is opened and not closed, `None` exactly where there is none. Of several opened records
-    /// the first counts.
+    /// the first counts. Its node and its intermediary are in their grammar, as all names in a store.
     pub fn context(&self, node: &Text, id: Hex64) -> Option<&Context>
-        ensures { option_map (λ x. context_view x.now) result ≡ spec.open_context node.now id.value self.now.records }
+        ensures context { option_map (λ x. context_view x.now) result ≡ spec.open_context node.now id.value self.now.records }
+        ensures node { IfSome result (λ _. IsTrue (is_node_name node.now)) }
+        ensures own_ipx { IfSome result (λ x. IsTrue (are_ipx (context_view x.now).own_ipx)) }
     {
         questions::open_context(&self.records, node, id)
     }

@@ -1,6 +1,8 @@
-use Rattle.std.proofs.Common.{◌∙◌, ◌≡◌, ◌++◌, ◌∷◌, [], length, ap, arith}
+use Rattle.std.proofs.Common.{◌∙◌, ◌≡◌, ◌++◌, ◌∷◌, [], length, map, ap, arith, refl}
 use Rattle.std.proofs.lemmas.List.{length_push, map-append}
 use Rattle.std.proofs.lemmas.Result.{err_from_is_err_and}
+use Rattle.spec_documents.proofs.GuardLemmas.{all-append}
+use Rattle.spec_protocol.specs.RecordDocument.{is_well_named}
 use Rattle.session_records.specs.View.{record_view}
 use Rattle.context_store.proofs.Kept.{front_more, bad_here}
 use Rattle.context_store.proofs.loading.read_records.Goals as goal
@@ -22,6 +24,8 @@ loop-records-preserved g c =
     record {
       counted = omega (arith, l.counted, size, longer);
       few = omega (arith, l.counted, c.in_ok-record-in-Ok-Some.ensures.room, size, longer);
+      named = rw (more, map-append record_view c.loop-records.records.items (c.in_ok-record-in-Ok-Some.record ∷ []))
+          (all-append is_well_named (map record_view c.loop-records.records.items) (record_view c.in_ok-record-in-Ok-Some.record ∷ []) l.named (rw c.in_ok-record-in-Ok-Some.ensures.named refl));
       front = rw (more, map-append record_view c.loop-records.records.items (c.in_ok-record-in-Ok-Some.record ∷ []))
           (front_more (g.K.Keeper.held c.args.keeper.now) (g.K.Keeper.held c.loop-records.keeper) c.loop-records.number _ _ c.in-Ok-Some.text _ l.front l.same c.in-Ok-Some.ensures.items c.in-Ok-Some.field-0-is
           (rw c.as_slice.ensures at c.in_ok-record-in-Ok-Some.ensures.ok));

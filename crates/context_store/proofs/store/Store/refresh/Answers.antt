@@ -7,7 +7,7 @@ use Rattle.context_store.proofs.store.Store.refresh.Goals as goal
 pub returns-then-self-clause-sound : goal.returns-then-self-clause-sound
 returns-then-self-clause-sound g c =
     has_no_bad (g.K.Keeper.held c.args.keeper.now) (map record_view c.self.inside.records.items) ((rw (← c.self.view_is) at c.requires) c.if-self.true)
-    (omega (arith, c.self.invariant, length-map c.self.inside.records.items record_view))
+    (omega (arith, c.self.invariant.0, length-map c.self.inside.records.items record_view))
 
 pub returns-clause-sound : goal.returns-clause-sound
 returns-clause-sound g c =
