@@ -30,7 +30,8 @@ impl Model for Block {
 }
 
 impl Block {
-    pub(crate) fn of_doc(doc: Doc, holes: u32) -> Block
+    /// The block that a document without a fault is, which is moved.
+    pub fn of_doc(doc: Doc, holes: u32) -> Block
         requires { block_fault doc holes ≡ None }
         ensures value { result ≡ doc }
         ensures holes { block_fault result holes ≡ None }
