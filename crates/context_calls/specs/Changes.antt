@@ -1,0 +1,67 @@
+-- What a call on a store and its keeper comes to: the answer, and what is held after it (this project's own).
+use Rattle.std.specs.Prelude.{◌≡◌, ℕ, ◌≤◌, List, length, Bool, true, false, nat_le, Option, Some, None, Result, Ok, Err, IfSome}
+use Rattle.spec_protocol.specs.Records.{Record, record_limit}
+use Rattle.n32_outside.specs.Contents.{Stays, Gains}
+use Rattle.session_records.specs.Reading.{ReadsRecord, written}
+use Rattle.context_store.specs.Stores.{Stored, Holds, IsFirstBad}
+use Rattle.spec_exchange.specs.Chain.{◌>>=◌, unless}
+use Rattle.spec_exchange.specs.Refusals.{Refusal, Journal, Keeper, Beyond, many_records}
+use Rattle.spec_exchange.specs.Outside.{Choice, Read, BadRecord, Putting, Outcome, puts, or_refusal, with_put}
+
+-- ---- what is held
+
+-- the text of the record is told more, and is read to it; or the same is told, or still nothing
+abbrev pub Keeps : (held now : Option (List (List ℕ))) → Option Record → Type 0
+Keeps held now None = Stays held now
+Keeps held now (Some r) = Gains held now (written r) × ReadsRecord (written r) r
+
+-- what is held, and the records of a store that has them all, after a call over these records
+pub record Change (held now : Option (List (List ℕ))) (records : List Record) (new : Stored) (put : Option Record) : Type 0 where
+  pub told : Keeps held now put
+  pub kept : new.fresh ≡ true → new.records ≡ with_put records put
+
+-- nothing has changed, but that a stale store may have been read
+pub record Nothing (held now : Option (List (List ℕ))) (old new : Stored) : Type 0 where
+  pub told : Stays held now
+  pub kept : old.fresh ≡ true → new ≡ old
+
+-- ---- a call
+
+-- the answer is that the keeper failed, or that it holds what is no record
+abbrev pub is_of_keeper : {X : Type 0} → Result X Refusal → Bool
+is_of_keeper (Err (Journal number)) = true
+is_of_keeper (Err Keeper) = true
+is_of_keeper _ = false
+
+-- an outcome over these records is what is answered and what is held then. After an answer that isn't of the keeper the store has all records that are held
+pub record ComesTo {X : Type 0} (Answers : Result X Refusal → Type 0) (held now : Option (List (List ℕ))) (records : List Record) (new : Stored) (outcome : Outcome X) : Type 0 where
+  pub answer : Answers outcome.result
+  pub change : Change held now records new outcome.put
+  pub still : is_of_keeper outcome.result ≡ false → new.fresh ≡ true
+
+-- a call over the records of the store, once it is read, under some choice of the keeper
+pub record CallBy {X : Type 0} (outcome : Choice → List Record → Outcome X) (Answers : Result X Refusal → Type 0) (held now : Option (List (List ℕ))) (old new : Stored) : Type 0 where
+  pub choice : Choice
+  pub records : List Record
+  -- a fresh store is not read
+  pub fresh : old.fresh ≡ true → (choice.reading ≡ Read) × (records ≡ old.records)
+  -- what is read are the records that are held, and the first of the held texts that is of no record, or one too many, is named
+  pub read : choice.reading ≡ Read → Holds held records
+  pub few : choice.reading ≡ Read → length records ≤ record_limit
+  pub bad : (number : ℕ) → choice.reading ≡ BadRecord number → IfSome held (λ texts. IsFirstBad texts number)
+  pub comes : ComesTo Answers held now records new (outcome choice records)
+
+-- ---- the put
+
+-- where there is room for one more record
+abbrev pub with_room : {X : Type 0} → List Record → X → Result X Refusal
+with_room records x = unless (nat_le record_limit (length records)) (Beyond many_records) >>= λ _. Ok x
+
+-- the record of x is put, where there is room for it
+abbrev pub putting : {X : Type 0} → (X → Record) → List Record → X → Putting → Outcome X
+putting item records x p = or_refusal (with_room records x) (λ x. puts p (item x) x)
+
+-- the record of x is put over the records of a fresh store, under some choice of the keeper
+pub record PutBy {X : Type 0} (item : X → Record) (Answers : Result X Refusal → Type 0) (held now : Option (List (List ℕ))) (old new : Stored) (x : X) : Type 0 where
+  pub choice : Putting
+  pub comes : ComesTo Answers held now old.records new (putting item old.records x choice)
