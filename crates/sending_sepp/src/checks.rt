@@ -1,0 +1,88 @@
+// The checks of a request that is to be sent, in their order.
+ghost use Rattle.std.specs.Prelude.{◌≡◌, ◌≤◌, IfErr, IfOk, IsTrue, OnOk};
+ghost use Rattle.spec_documents.specs.Text.{is_node_name};
+ghost use Rattle.spec_messages.specs.Message.{is_whole, body_depth, of_request, wanted};
+ghost use Rattle.spec_protocol.specs.Records as spec;
+ghost use Rattle.spec_protocol.specs.RecordDocument.{are_ipx};
+ghost use Rattle.http_message.specs.Reading.{message_view};
+ghost use Rattle.session_records.specs.View.{context_view, key_set_view};
+ghost use Rattle.spec_exchange.specs.Refusals as refusals;
+ghost use Rattle.sending_sepp.specs.Sending.{Gives};
+ghost use Rattle.sending_sepp.specs.Outcome.{ChecksOut, IsOfChecks};
+
+use crate::fault::SendFault;
+use crate::sealing::sent_document;
+use context_calls::{keys_fit_suite, mapping_for};
+use context_store::Store;
+use http_message::{Kind, Message};
+use n32_values::{Doc, Hex64, Text};
+use session_records::{Context, KeySet};
+use std::alloc::Global;
+
+/// A sealed request, and what its record says.
+#[derive(Drop)]
+pub(crate) struct Checked {
+    pub(crate) document: Doc,
+    pub(crate) seq: u32,
+    pub(crate) mapping: Option<u32>,
+}
+
+fn context_of<'a>(store: &'a Store, node: &Text, id: Hex64) -> Result<&'a Context, SendFault>
+    ensures value { Gives (λ x. context_view x.now) result (wanted (spec.open_context node.now id.value store.now.records) refusals.ContextNotFound) }
+    ensures kind { IfErr result IsOfChecks }
+    ensures node { OnOk result (IsTrue (is_node_name node.now)) }
+    ensures own_ipx { IfOk result (λ x. IsTrue (are_ipx (context_view x.now).own_ipx)) }
+{
+    match store.context(node, id) {
+        Some(context) => Ok(context),
+        None => Err(SendFault::ContextNotFound),
+    }
+}
+
+fn keys_of<'a>(store: &'a Store, node: &Text, id: Hex64) -> Result<&'a KeySet, SendFault>
+    ensures value { Gives (λ k. key_set_view k.now) result (wanted (spec.keys node.now id.value store.now.records) refusals.NoKeys) }
+    ensures kind { IfErr result IsOfChecks }
+{
+    match store.keys(node, id) {
+        Some(keys) => Ok(keys),
+        None => Err(SendFault::NoKeys),
+    }
+}
+
+fn next_number(store: &Store, node: &Text, id: Hex64) -> Result<u32, SendFault>
+    ensures value { Gives (λ n. n) result (wanted (spec.next_seq node.now id.value of_request store.now.records) refusals.SeqSpent) }
+    ensures kind { IfErr result IsOfChecks }
+{
+    match store.next_seq(node, id, Kind::Request) {
+        Some(seq) => Ok(seq),
+        None => Err(SendFault::SeqSpent),
+    }
+}
+
+/// The sealed request, or the first check that refuses it, but for the limit on records.
+#[tactic(auto, unfolding(spec_exchange::specs::Chain::chains))]
+pub(crate) fn check(
+    alloc: Global,
+    store: &Store,
+    node: &Text,
+    id: Hex64,
+    request: &Message,
+) -> Result<Checked, SendFault>
+    requires whole { IsTrue (is_whole (message_view request.now)) }
+    requires shallow { body_depth (message_view request.now).body ≤ 64 }
+    ensures checks { ChecksOut store.now.records node.now id.value (message_view request.now) result }
+    ensures kind { IfErr result IsOfChecks }
+    ensures node { OnOk result (IsTrue (is_node_name node.now)) }
+{
+    keys_fit_suite();
+    let context = context_of(store, node, id)?;
+    let keys = keys_of(store, node, id)?;
+    let mapping = mapping_for(&context.policy, request);
+    let seq = next_number(store, node, id)?;
+    let document = sent_document(alloc, context, keys, mapping, seq, request)?;
+    Ok(Checked {
+        document,
+        seq,
+        mapping,
+    })
+}

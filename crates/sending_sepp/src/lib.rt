@@ -1,0 +1,17 @@
+//! The sending SEPP: a request is split, sealed and recorded, and then handed out (TS 33.501 clauses 13.2.4.4
+//! and 13.2.4.5 in outline).
+#![tactic(auto)]
+
+mod checks;
+mod fault;
+mod metadata;
+mod recording;
+mod sealing;
+mod sending;
+mod splitting;
+
+pub use fault::SendFault;
+pub use sending::protect;
+
+#[cfg(test)]
+mod tests;

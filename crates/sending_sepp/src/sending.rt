@@ -1,0 +1,62 @@
+// Sending a request.
+ghost use Rattle.std.specs.Prelude.{◌≡◌, ◌≤◌, true, IsTrue, IsErrOf, IsOk};
+ghost use Rattle.spec_messages.specs.Message.{is_whole, body_depth, kind_of, of_request};
+ghost use Rattle.n32_outside.specs.Causes.{Rose};
+ghost use Rattle.http_message.specs.Reading.{message_view};
+ghost use Rattle.context_store.specs.Stores.{IsConsistent};
+ghost use Rattle.spec_exchange.specs.Calls.{Asks, protected};
+ghost use Rattle.sending_sepp.specs.Outcome.{Protects, fault_of};
+
+use crate::checks::check;
+use crate::fault::SendFault;
+use crate::recording::record_sent;
+use context_store::{OpenFault, Store};
+use http_message::Message;
+use n32_outside::Keeper;
+use n32_values::{Doc, Hex64, Text};
+use std::alloc::Global;
+
+fn unread(fault: OpenFault) -> SendFault
+    ensures { result ≡ fault_of fault }
+{
+    match fault {
+        OpenFault::Journal(number) => SendFault::Journal(number),
+        OpenFault::Keeper => SendFault::Keeper,
+        OpenFault::NoMemory => SendFault::NoMemory,
+    }
+}
+
+/// Protects a request under the context of that id at the node, and records that it was sent: the answer is
+/// the document to send (TS 33.501 clauses 13.2.4.4 and 13.2.4.5 in outline). The request must be a whole one
+/// whose body nests at most 64 deep.
+///
+/// A stale store is read first. Its sequence number is the first of the keys, or what follows the greatest that
+/// was sent, and is the message's id. The document is complete before its record is put. The answer is that of
+/// the first check that fails, in the order of `SendFault` with `Keeper` of the put last. `Keeper` comes only
+/// where the keeper failed, and the store was stale or every other check holds: the record may then be held or
+/// not. `Journal` comes only where a stale store is read. After any other refusal nothing more is held, and the
+/// store has all records that are held.
+pub fn protect<K: Keeper>(
+    alloc: Global,
+    store: &mut Store,
+    keeper: &mut K,
+    node: &Text,
+    id: Hex64,
+    request: &Message,
+) -> Result<Doc, SendFault>
+    requires consistent { IsConsistent (K.held keeper.old) store.old }
+    requires whole { IsTrue (is_whole (message_view request.now)) }
+    requires shallow { body_depth (message_view request.now).body ≤ 64 }
+    requires kind { kind_of (message_view request.now) ≡ of_request }
+    ensures protects { Protects (K.held keeper.old) (K.held keeper.new) store.old store.new node.now id.value (message_view request.now) result }
+    ensures consistent { IsConsistent (K.held keeper.new) store.new }
+    ensures later { K.faults keeper.old ≤ K.faults keeper.new }
+    ensures failed { IsErrOf result SendFault.Keeper → Rose (K.faults keeper.old) (K.faults keeper.new) }
+    ensures last { IsErrOf result SendFault.Keeper → store.old.fresh ≡ true → IsOk (protected store.old.records node.now id.value Asks (message_view request.now)) }
+{
+    if let Err(fault) = store.refresh(alloc, keeper) {
+        return Err(unread(fault));
+    }
+    let checked = check(alloc, store, node, id, request)?;
+    record_sent(alloc, store, keeper, node, id, checked)
+}
