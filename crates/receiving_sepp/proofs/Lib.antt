@@ -1,0 +1,6 @@
+mod Rows
+mod Chain
+mod Causes
+mod Calls
+mod Counts
+mod Faults

@@ -1,0 +1,17 @@
+//! The receiving SEPP (TS 33.501 clause 13.2.4.6): a document is accepted by the checks in their order, and
+//! its message delivered at most once.
+#![tactic(auto)]
+
+mod accepting;
+mod checks;
+mod delivery;
+mod opening;
+mod rebuilding;
+mod received;
+mod refused;
+
+pub use accepting::accept;
+pub use refused::{Delivered, RebuildWhy, Refused};
+
+#[cfg(test)]
+mod tests;
