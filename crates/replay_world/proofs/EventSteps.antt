@@ -1,0 +1,166 @@
+-- The steps of events, once some of their checks are made.
+use Rattle.std.proofs.Common.{◌≡◌, ℕ, ℤ, List, Bool, true, false, is_some, length, Option, Some, None, Result, Ok, Err, refl, sym, ap, subst, ◌∙◌, ◌<◌, ◌≤◌, IsTrue}
+use Rattle.std.specs.Prelude.{not, codes}
+use Rattle.std.proofs.lemmas.Bool.{lt-leb, le-leb}
+use Rattle.spec_documents.specs.Tree.{Tree}
+use Rattle.spec_messages.specs.Message.{Message, wanted}
+use Rattle.spec_messages.specs.Policy.{Policy}
+use Rattle.spec_protocol.specs.Records.{KeySet, Context, Record, Opened, Keyed, record_limit, used, open_context, keys, keys_fit}
+use Rattle.spec_protocol.specs.RecordDocument.{is_well_named}
+use Rattle.spec_exchange.specs.Chain.{◌>>=◌, unless}
+use Rattle.spec_exchange.specs.Refusals.{Beyond, many_records, ContextNotFound}
+use Rattle.spec_exchange.specs.Outside.{Choice, Read}
+use Rattle.spec_exchange.specs.Calls.{Asks, accepted, sends}
+use Rattle.spec_script.specs.Refusals.{Refusal, NodeUnknown, NodeExists, WireUnknown, ContextUsed, KeysTwice, BadEvent, OfCall}
+use Rattle.spec_script.specs.Events.{HandedContext, AddNode, AddContext, AddKeys, Send, Deliver, Restart}
+use Rattle.spec_script.specs.Steps.{State, Step, refuses, or_refuses, adds_node, does, delivers, sends_sealed, plmn_at, wire_at, known_node, known_document, new_node, request_to_send, policy_to_hold, has_read, room_for_record, context_with, opens, keys_up, puts, step}
+use Rattle.replay_world.specs.Fitting.{IsFit}
+use Rattle.replay_world.specs.Handing.{context_to_open, keys_may_come, opens_new, keys_new, puts_record}
+
+-- ---- checks
+
+there : {A E : Type 0} (o : Option A) (e : E) → is_some o ≡ true → (x : A) × (wanted o e ≡ Ok x)
+there None e h = cc
+there (Some x) e h = (x, refl)
+
+missing : {A E : Type 0} (o : Option A) (e : E) → is_some o ≡ false → wanted o e ≡ Err e
+missing None e h = refl
+missing (Some x) e h = cc
+
+bind_ok : {A B E : Type 0} (r : Result A E) (x : A) (k : A → Result B E) → r ≡ Ok x → (r >>= k) ≡ k x
+unfolding ◌>>=◌
+bind_ok r x k h = rw h refl
+
+bind_err : {A B E : Type 0} (r : Result A E) (e : E) (k : A → Result B E) → r ≡ Err e → (r >>= k) ≡ Err e
+unfolding ◌>>=◌
+bind_err r e k h = rw h refl
+
+-- what follows the check of a node that is known
+known : (s : State) (node : List ℕ) (k : Result Step Refusal) → is_some (plmn_at s.sites node) ≡ true → or_refuses s (known_node s node >>= λ plmn. k) ≡ or_refuses s k
+known s node k h = let found = there (plmn_at s.sites node) NodeUnknown h in ap (or_refuses s) (bind_ok (known_node s node) found.0 (λ plmn. k) found.1)
+
+unknown : (s : State) (node : List ℕ) (k : Result Step Refusal) → is_some (plmn_at s.sites node) ≡ false → or_refuses s (known_node s node >>= λ plmn. k) ≡ refuses s NodeUnknown
+unknown s node k h = ap (or_refuses s) (bind_err (known_node s node) NodeUnknown (λ plmn. k) (missing (plmn_at s.sites node) NodeUnknown h))
+
+-- ---- nodes
+
+pub node_exists : (s : State) (f : Choice) (node plmn : List ℕ) → is_some (plmn_at s.sites node) ≡ true → step s f (AddNode node plmn) ≡ refuses s NodeExists
+node_exists s f node plmn h = ap (or_refuses s) (bind_err (new_node s node) NodeExists (λ new. Ok (adds_node s node plmn)) (ap (λ (b : Bool). unless b NodeExists) h))
+
+pub node_is_new : (s : State) (f : Choice) (node plmn : List ℕ) → is_some (plmn_at s.sites node) ≡ false → step s f (AddNode node plmn) ≡ adds_node s node plmn
+node_is_new s f node plmn h = ap (or_refuses s) (bind_ok (new_node s node) tt (λ new. Ok (adds_node s node plmn)) (ap (λ (b : Bool). unless b NodeExists) h))
+
+-- ---- the node of an event is unknown
+
+pub unknown_context : (s : State) (f : Choice) (x : HandedContext) → is_some (plmn_at s.sites x.node) ≡ false → step s f (AddContext x) ≡ refuses s NodeUnknown
+unknown_context s f x h = unknown s x.node _ h
+
+pub unknown_keys : (s : State) (f : Choice) (node : List ℕ) (id : ℕ) (set : KeySet) → is_some (plmn_at s.sites node) ≡ false → step s f (AddKeys node id set) ≡ refuses s NodeUnknown
+unknown_keys s f node id set h = unknown s node _ h
+
+pub unknown_sender : (s : State) (f : Choice) (node : List ℕ) (id : ℕ) (t : Tree) (answers : Option ℕ) → is_some (plmn_at s.sites node) ≡ false → step s f (Send node id t answers) ≡ refuses s NodeUnknown
+unknown_sender s f node id t answers h = unknown s node _ h
+
+pub unknown_receiver : (s : State) (f : Choice) (node : List ℕ) (wire : ℤ) → is_some (plmn_at s.sites node) ≡ false → step s f (Deliver node wire) ≡ refuses s NodeUnknown
+unknown_receiver s f node wire h = unknown s node _ h
+
+pub unknown_restart : (s : State) (f : Choice) (node : List ℕ) → is_some (plmn_at s.sites node) ≡ false → step s f (Restart node) ≡ refuses s NodeUnknown
+unknown_restart s f node h = unknown s node _ h
+
+pub restarts : (s : State) (f : Choice) (node : List ℕ) → is_some (plmn_at s.sites node) ≡ true → step s f (Restart node) ≡ does s (codes "restart")
+restarts s f node h = known s node _ h
+
+-- ---- documents
+
+pub no_document : (s : State) (f : Choice) (node : List ℕ) (wire : ℤ) → is_some (plmn_at s.sites node) ≡ true → wire_at s.wire wire ≡ None → step s f (Deliver node wire) ≡ refuses s WireUnknown
+no_document s f node wire h none =
+    known s node _ h ∙ ap (or_refuses s) (bind_err (known_document s wire) WireUnknown (λ t. Ok (delivers s (accepted f s.records node t))) (ap (λ (o : Option Tree). wanted o WireUnknown) none))
+
+pub delivers_document : (s : State) (f : Choice) (node : List ℕ) (wire : ℤ) (t : Tree) → is_some (plmn_at s.sites node) ≡ true → wire_at s.wire wire ≡ Some t → step s f (Deliver node wire) ≡ delivers s (accepted f s.records node t)
+delivers_document s f node wire t h found =
+    known s node _ h ∙ ap (or_refuses s) (bind_ok (known_document s wire) t (λ t. Ok (delivers s (accepted f s.records node t))) (ap (λ (o : Option Tree). wanted o WireUnknown) found))
+
+pub no_request : (s : State) (f : Choice) (node : List ℕ) (id : ℕ) (t : Tree) (answers : Option ℕ) (e : Refusal) → is_some (plmn_at s.sites node) ≡ true → request_to_send t answers ≡ Err e → step s f (Send node id t answers) ≡ refuses s e
+no_request s f node id t answers e h bad =
+    known s node _ h ∙ ap (or_refuses s) (bind_err (request_to_send t answers) e (λ m. Ok (sends_sealed s (sends f s.records node id Asks m))) bad)
+
+pub sends_request : (s : State) (f : Choice) (node : List ℕ) (id : ℕ) (t : Tree) (answers : Option ℕ) (m : Message) → is_some (plmn_at s.sites node) ≡ true → request_to_send t answers ≡ Ok m → step s f (Send node id t answers) ≡ sends_sealed s (sends f s.records node id Asks m)
+sends_request s f node id t answers m h good =
+    known s node _ h ∙ ap (or_refuses s) (bind_ok (request_to_send t answers) m (λ m. Ok (sends_sealed s (sends f s.records node id Asks m))) good)
+
+-- ---- contexts and keys
+
+bind_bind : {A B C E : Type 0} (r : Result A E) (k : A → Result B E) (l : B → Result C E) → ((r >>= k) >>= l) ≡ (r >>= λ x. k x >>= l)
+unfolding ◌>>=◌
+bind_bind (Ok x) k l = refl
+bind_bind (Err e) k l = refl
+
+pub no_context : (s : State) (f : Choice) (x : HandedContext) (e : Refusal) → is_some (plmn_at s.sites x.node) ≡ true → context_to_open x ≡ Err e → step s f (AddContext x) ≡ refuses s e
+unfolding ◌>>=◌
+no_context s f x e h bad =
+    known s x.node _ h ∙ ap (or_refuses s) (sym (bind_bind (policy_to_hold x.policy) (λ policy. Ok (context_with x policy)) (λ y. opens s f y)) ∙ bind_err (context_to_open x) e (λ y. opens s f y) bad)
+
+pub opens_context : (s : State) (f : Choice) (x : HandedContext) (y : Context) → is_some (plmn_at s.sites x.node) ≡ true → context_to_open x ≡ Ok y → step s f (AddContext x) ≡ or_refuses s (opens s f y)
+unfolding ◌>>=◌
+opens_context s f x y h good =
+    known s x.node _ h ∙ ap (or_refuses s) (sym (bind_bind (policy_to_hold x.policy) (λ policy. Ok (context_with x policy)) (λ y. opens s f y)) ∙ bind_ok (context_to_open x) y (λ y. opens s f y) good)
+
+pub takes_keys : (s : State) (f : Choice) (node : List ℕ) (id : ℕ) (set : KeySet) → is_some (plmn_at s.sites node) ≡ true → step s f (AddKeys node id set) ≡ or_refuses s (keys_up s f node id set)
+takes_keys s f node id set h = known s node _ h
+
+-- what follows the reading of the store
+abbrev pub opens_rest : Context → State → Choice → Result Step Refusal
+opens_rest x s f = unless (used x.node x.id s.records) ContextUsed >>= λ _. room_for_record s >>= λ _. Ok (puts s f.putting (codes "context") (Opened x))
+
+abbrev pub keys_rest : (node : List ℕ) → (id : ℕ) → KeySet → State → Choice → Result Step Refusal
+keys_rest node id set s f =
+    wanted (open_context node id s.records) (OfCall ContextNotFound) >>= λ x.
+    unless (is_some (keys node id s.records)) KeysTwice >>= λ _.
+    unless (not (keys_fit x.suite set)) (BadEvent (codes "key")) >>= λ _.
+    room_for_record s >>= λ _.
+    Ok (puts s f.putting (codes "keys") (Keyed node id set))
+
+read_on : {A : Type 0} (s : State) (f : Choice) (k : Unit {0} → Result A Refusal) → f.reading ≡ Read → (has_read f.reading >>= k) ≡ k tt
+read_on s f k h = bind_ok (has_read f.reading) tt k (ap has_read h)
+
+pub opens_read : (s : State) (f : Choice) (x : Context) → f.reading ≡ Read → or_refuses s (opens s f x) ≡ opens_new x s f
+opens_read s f x h = ap (or_refuses s) (read_on s f _ h)
+
+chain_apart : (r : Result Context Refusal) (a : Result (Unit {0}) Refusal) (b : Context → Result (Unit {0}) Refusal) (k : Result Step Refusal) → (r >>= λ x. a >>= λ y. b x >>= λ z. k) ≡ ((r >>= λ x. a >>= λ y. b x) >>= λ z. k)
+unfolding ◌>>=◌
+chain_apart (Err e) a b k = refl
+chain_apart (Ok x) (Err e) b k = refl
+chain_apart (Ok x) (Ok y) b k = refl
+
+pub keys_read : (s : State) (f : Choice) (node : List ℕ) (id : ℕ) (set : KeySet) → f.reading ≡ Read → or_refuses s (keys_up s f node id set) ≡ keys_new node id set s f
+keys_read s f node id set h = ap (or_refuses s) (read_on s f _ h ∙ chain_apart _ _ _ _)
+
+-- an id that is used, and one that is not
+pub id_is_used : (s : State) (f : Choice) (x : Context) → used x.node x.id s.records ≡ true → opens_new x s f ≡ refuses s ContextUsed
+id_is_used s f x h = ap (or_refuses s) (bind_err (unless (used x.node x.id s.records) ContextUsed) ContextUsed _ (ap (λ (b : Bool). unless b ContextUsed) h))
+
+pub id_is_new : (s : State) (f : Choice) (x : Context) → used x.node x.id s.records ≡ false → opens_new x s f ≡ puts_record (codes "context") (Opened x) s f
+id_is_new s f x h = ap (or_refuses s) (bind_ok (unless (used x.node x.id s.records) ContextUsed) tt _ (ap (λ (b : Bool). unless b ContextUsed) h))
+
+pub no_keys : (s : State) (f : Choice) (node : List ℕ) (id : ℕ) (set : KeySet) (e : Refusal) → keys_may_come s.records node id set ≡ Err e → keys_new node id set s f ≡ refuses s e
+no_keys s f node id set e h = ap (or_refuses s) (bind_err (keys_may_come s.records node id set) e _ h)
+
+pub records_keys : (s : State) (f : Choice) (node : List ℕ) (id : ℕ) (set : KeySet) → keys_may_come s.records node id set ≡ Ok tt → keys_new node id set s f ≡ puts_record (codes "keys") (Keyed node id set) s f
+records_keys s f node id set h = ap (or_refuses s) (bind_ok (keys_may_come s.records node id set) tt _ h)
+
+-- room for a record
+pub no_room : (s : State) (f : Choice) (name : List ℕ) (r : Record) → record_limit ≤ length s.records → puts_record name r s f ≡ refuses s (OfCall (Beyond many_records))
+no_room s f name r h = ap (or_refuses s) (bind_err (room_for_record s) (OfCall (Beyond many_records)) _ (ap (λ (b : Bool). unless b (OfCall (Beyond many_records))) (le-leb record_limit (length s.records) h)))
+
+pub has_room : (s : State) (f : Choice) (name : List ℕ) (r : Record) → length s.records < record_limit → puts_record name r s f ≡ puts s f.putting name r
+has_room s f name r h = ap (or_refuses s) (bind_ok (room_for_record s) tt _ (ap (λ (b : Bool). unless b (OfCall (Beyond many_records))) (lt-leb record_limit (length s.records) h)))
+
+-- ---- names
+
+pub opened_named : (x : HandedContext) (y : Context) → context_to_open x ≡ Ok y → IsFit (AddContext x) → IsTrue (is_well_named (Opened y))
+unfolding ◌>>=◌
+opened_named x y e fit = by_policy (policy_to_hold x.policy) e
+  where
+    by_policy : (r : Result Policy Refusal) → (r >>= λ policy. Ok (context_with x policy)) ≡ Ok y → IsTrue (is_well_named (Opened y))
+    by_policy (Err d) e = cc
+    by_policy (Ok policy) e = let same : context_with x policy ≡ y = cc in subst (λ (z : Context). IsTrue (is_well_named (Opened z))) same fit

@@ -1,0 +1,180 @@
+-- What is known of an event that a document is of: its names are in their grammar, and a document in it is less deep.
+use Rattle.std.proofs.Common.{◌≡◌, ◌≤◌, ℕ, suc, List, [], ◌∷◌, length, Bool, true, false, ◌&&◌, nat_le, cond, Option, Some, None, Result, Ok, Err, Ordering, Less, Equal, Greater, refl, ap, subst, IsTrue, bytes_eq, codes, arith}
+use Rattle.std.specs.Prelude.{unwrap_or}
+use Rattle.std.specs.List.{list_all}
+use Rattle.std.specs.Option.{option_and_then}
+use Rattle.std.specs.Ordering.{match_ordering}
+use Rattle.spec_documents.specs.Tree.{Tree, null, truth, whole, words, items, members, Members, no_members, member, name_cmp, get_member, depth, members_depth}
+use Rattle.spec_documents.specs.Place.{◌>>=◌}
+use Rattle.spec_documents.specs.Text.{is_identity, is_node_name}
+use Rattle.spec_messages.specs.Message.{wanted, any_text, text_if, text_in, onto_read, all_read}
+use Rattle.spec_messages.specs.PolicyDocument.{listed}
+use Rattle.spec_protocol.specs.RecordDocument.{identities, ipx_in, are_ipx}
+use Rattle.spec_script.specs.Events.{Event, AddNode, AddContext, AddKeys, Send, Inject, Deliver, Restart, read_at, node_in, id_in, plmn_in, suite_in, any_value, whole_in, pair_in, first_in, answers_in, node_event, context_event, keys_event, send_event, inject_event, deliver_event, restart_event, event_named, event_of}
+use Rattle.replay_world.specs.Fitting.{IsFit}
+
+-- ---- texts of a grammar
+
+passes : (test : List ℕ → Bool) (t : Tree) (s : List ℕ) → text_if test t ≡ Some s → test s ≡ true
+passes test null s e = cc
+passes test (truth b) s e = cc
+passes test (whole z) s e = cc
+passes test (words w) s e = tested (test w) refl e
+  where
+    tested : (b : Bool) → test w ≡ b → cond b (Some w) None ≡ Some s → test s ≡ true
+    tested true f e = let same : w ≡ s = cc in subst (λ z. test z ≡ true) same f
+    tested false f e = cc
+passes test (items ts) s e = cc
+passes test (members ms) s e = cc
+
+record AllPass (test : List ℕ → Bool) (ts : List Tree) (ss : List (List ℕ)) : Type 0 where
+  pub all : list_all test ss ≡ true
+  pub count : length ss ≡ length ts
+
+all_pass : (test : List ℕ → Bool) (ts : List Tree) (ss : List (List ℕ)) → all_read (text_if test) ts ≡ Some ss → AllPass test ts ss
+all_pass test [] ss e = let same : [] ≡ ss = cc in subst (λ z. AllPass test [] z) same (record { all = refl; count = refl })
+all_pass test (t ∷ ts) ss e = step (text_if test t) refl (all_read (text_if test) ts) (λ ys g. all_pass test ts ys g) e
+  where
+    step : (o : Option (List ℕ)) → text_if test t ≡ o → (rest : Option (List (List ℕ))) → ((ys : List (List ℕ)) → rest ≡ Some ys → AllPass test ts ys) → onto_read o rest ≡ Some ss → AllPass test (t ∷ ts) ss
+    step None f rest g e = cc
+    step (Some s) f None g e = cc
+    step (Some s) f (Some ys) g e =
+        let same : s ∷ ys ≡ ss = cc in
+        let more = g ys refl in
+        subst (λ z. AllPass test (t ∷ ts) z) same (record { all = rw (passes test t s f) more.all; count = ap suc more.count })
+
+identities_named : (ts : List Tree) (ss : List (List ℕ)) → identities ts ≡ Some ss → are_ipx ss ≡ true
+identities_named ts ss e = tested (nat_le (length ts) 1) refl e
+  where
+    tested : (b : Bool) → nat_le (length ts) 1 ≡ b → cond b (all_read (text_if is_identity) ts) None ≡ Some ss → are_ipx ss ≡ true
+    tested true f e = let h = all_pass is_identity ts ss e in rw (h.count, f) h.all
+    tested false f e = cc
+
+-- ---- members
+
+is_some_of : {A E : Type 0} (o : Option A) (d : E) (x : A) → wanted o d ≡ Ok x → o ≡ Some x
+is_some_of None d x e = cc
+is_some_of (Some y) d x e = cc
+
+name_is : (k : List ℕ) (ms : Members) (node : List ℕ) → read_at node_in k ms ≡ Ok node → is_node_name node ≡ true
+name_is k ms node e = step (get_member k ms) (is_some_of (node_in (get_member k ms)) k node e)
+  where
+    step : (o : Option Tree) → node_in o ≡ Some node → is_node_name node ≡ true
+    step None e = cc
+    step (Some t) e = passes is_node_name t node e
+
+ipx_is : (k : List ℕ) (ms : Members) (ss : List (List ℕ)) → read_at ipx_in k ms ≡ Ok ss → are_ipx ss ≡ true
+ipx_is k ms ss e = step (listed (get_member k ms)) (is_some_of (ipx_in (get_member k ms)) k ss e)
+  where
+    step : (l : Option (List Tree)) → option_and_then identities l ≡ Some ss → are_ipx ss ≡ true
+    step None e = cc
+    step (Some ts) e = identities_named ts ss e
+
+got_low_step : (k l : List ℕ) (u w : Tree) (ms : Members) (o : Ordering) → (get_member k ms ≡ Some u → depth u ≤ members_depth ms)
+    → match_ordering o (get_member k ms) (Some w) (get_member k ms) ≡ Some u → depth u ≤ members_depth (member l w ms)
+got_low_step k l u w ms Less h e = let d = h e in omega arith
+got_low_step k l u w ms Equal h e = let is : w ≡ u = cc in let same = ap depth is in omega arith
+got_low_step k l u w ms Greater h e = let d = h e in omega arith
+
+-- a member is less deep than its object
+got_low : (k : List ℕ) (u : Tree) (ms : Members) → get_member k ms ≡ Some u → depth u ≤ members_depth ms
+got_low k u no_members e = cc
+got_low k u (member l w ms) e = got_low_step k l u w ms (name_cmp k l) (got_low k u ms) e
+
+-- ---- events
+
+-- the event is fit, where there is one
+record AllFit (r : Result Event (List ℕ)) : Type 0 where
+  pub fit : (e : Event) → r ≡ Ok e → IsFit e
+
+ok_fits : (e : Event) → IsFit e → AllFit (Ok e)
+ok_fits e h = record { fit = λ d is. let same : e ≡ d = cc in subst IsFit same h }
+
+err_fits : (k : List ℕ) → AllFit (Err k)
+err_fits k = record { fit = λ d is. cc }
+
+bind_fits : {A : Type 0} (r : Result A (List ℕ)) (k : A → Result Event (List ℕ)) → ((x : A) → r ≡ Ok x → AllFit (k x)) → AllFit (r >>= k)
+bind_fits (Ok x) k h = h x refl
+bind_fits (Err d) k h = err_fits d
+
+cond_fits : (b : Bool) (r q : Result Event (List ℕ)) → AllFit r → AllFit q → AllFit (cond b r q)
+cond_fits true r q h g = h
+cond_fits false r q h g = g
+
+all_true : (a b c d : Bool) → a ≡ true → b ≡ true → c ≡ true → d ≡ true → IsTrue (a && (b && (c && d)))
+all_true a b c d p q r s = rw (p, q, r) s
+
+node_fits : (ms : Members) → AllFit (node_event ms)
+node_fits ms =
+    bind_fits (read_at node_in (codes "node") ms) _ λ node a.
+    bind_fits (read_at plmn_in (codes "plmn") ms) _ λ plmn b.
+    ok_fits (AddNode node plmn) tt
+
+context_fits : (ms : Members) → AllFit (context_event ms)
+context_fits ms =
+    bind_fits (read_at node_in (codes "node") ms) _ λ node a.
+    bind_fits (read_at id_in (codes "id") ms) _ λ id b.
+    bind_fits (read_at node_in (codes "peer_node") ms) _ λ peer_node c.
+    bind_fits (read_at id_in (codes "peer") ms) _ λ peer d.
+    bind_fits (read_at plmn_in (codes "plmn") ms) _ λ plmn e.
+    bind_fits (read_at suite_in (codes "suite") ms) _ λ suite f.
+    bind_fits (read_at any_value (codes "policy") ms) _ λ policy g.
+    bind_fits (read_at ipx_in (codes "own_ipx") ms) _ λ own_ipx h.
+    bind_fits (read_at ipx_in (codes "peer_ipx") ms) _ λ peer_ipx i.
+    ok_fits (AddContext (record { node = node; id = id; peer_node = peer_node; peer = peer; plmn = plmn; suite = suite; policy = policy; own_ipx = own_ipx; peer_ipx = peer_ipx }))
+    (all_true _ _ _ _ (name_is (codes "node") ms node a) (name_is (codes "peer_node") ms peer_node c) (ipx_is (codes "own_ipx") ms own_ipx h) (ipx_is (codes "peer_ipx") ms peer_ipx i))
+
+keys_fits : (ms : Members) → AllFit (keys_event ms)
+keys_fits ms =
+    bind_fits (read_at node_in (codes "node") ms) _ λ node a.
+    bind_fits (read_at id_in (codes "id") ms) _ λ id b.
+    bind_fits (read_at pair_in (codes "send") ms) _ λ send c.
+    bind_fits (read_at pair_in (codes "receive") ms) _ λ receive d.
+    bind_fits (read_at first_in (codes "first") ms) _ λ first e.
+    ok_fits (AddKeys node id (record { send_request = send.0; send_response = send.1; receive_request = receive.0; receive_response = receive.1; first = unwrap_or first 0 })) (name_is (codes "node") ms node a)
+
+send_fits : (ms : Members) → AllFit (send_event ms)
+send_fits ms =
+    bind_fits (read_at node_in (codes "node") ms) _ λ node a.
+    bind_fits (read_at id_in (codes "id") ms) _ λ id b.
+    bind_fits (read_at any_value (codes "message") ms) _ λ content c.
+    bind_fits (read_at answers_in (codes "answers") ms) _ λ answers d.
+    ok_fits (Send node id content answers) tt
+
+inject_fits : (ms : Members) → members_depth ms ≤ 126 → AllFit (inject_event ms)
+inject_fits ms low =
+    bind_fits (read_at any_value (codes "document") ms) _ λ document a.
+    let there = got_low (codes "document") document ms (is_some_of (get_member (codes "document") ms) (codes "document") document a) in
+    ok_fits (Inject document) (omega arith)
+
+deliver_fits : (ms : Members) → AllFit (deliver_event ms)
+deliver_fits ms =
+    bind_fits (read_at node_in (codes "node") ms) _ λ node a.
+    bind_fits (read_at whole_in (codes "wire") ms) _ λ wire b.
+    ok_fits (Deliver node wire) tt
+
+restart_fits : (ms : Members) → AllFit (restart_event ms)
+restart_fits ms =
+    bind_fits (read_at node_in (codes "node") ms) _ λ node a.
+    ok_fits (Restart node) tt
+
+named_fits : (name : List ℕ) (ms : Members) → members_depth ms ≤ 126 → AllFit (event_named name ms)
+named_fits name ms low =
+    cond_fits (bytes_eq name (codes "node")) _ _ (node_fits ms)
+    (cond_fits (bytes_eq name (codes "context")) _ _ (context_fits ms)
+    (cond_fits (bytes_eq name (codes "keys")) _ _ (keys_fits ms)
+    (cond_fits (bytes_eq name (codes "send")) _ _ (send_fits ms)
+    (cond_fits (bytes_eq name (codes "inject")) _ _ (inject_fits ms low)
+    (cond_fits (bytes_eq name (codes "deliver")) _ _ (deliver_fits ms)
+    (cond_fits (bytes_eq name (codes "restart")) _ _ (restart_fits ms) (err_fits (codes "do"))))))))
+
+tree_fits : (t : Tree) → depth t ≤ 127 → AllFit (event_of t)
+tree_fits null low = err_fits (codes "do")
+tree_fits (truth b) low = err_fits (codes "do")
+tree_fits (whole z) low = err_fits (codes "do")
+tree_fits (words s) low = err_fits (codes "do")
+tree_fits (items ts) low = err_fits (codes "do")
+tree_fits (members ms) low = bind_fits (read_at (text_in any_text) (codes "do") ms) _ λ name a. named_fits name ms (omega arith)
+
+pub event_fits : (t : Tree) (e : Event) → event_of t ≡ Ok e → depth t ≤ 127 → IsFit e
+event_fits t e is low = (tree_fits t low).fit e is

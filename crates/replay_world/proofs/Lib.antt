@@ -1,0 +1,13 @@
+pub mod Read
+pub mod Fits
+pub mod Parts
+pub mod EventSteps
+pub mod Nodes
+pub mod Sealing
+pub mod Told
+pub mod Documents
+pub mod Recording
+pub mod Unread
+pub mod Journals
+pub mod Held
+pub mod Printed

@@ -1,0 +1,62 @@
+-- Where the keeper isn't read, the records do not matter.
+use Rattle.std.proofs.Common.{◌≡◌, List, None, Result, Ok, Err, refl}
+use Rattle.spec_documents.specs.Tree.{Tree}
+use Rattle.spec_protocol.specs.Records.{Record}
+use Rattle.spec_exchange.specs.Chain.{◌>>=◌}
+use Rattle.spec_exchange.specs.Outside.{Choice, Reading, Read, ReadFails, BadRecord, Outcome, behind_reading}
+use Rattle.spec_exchange.specs.FirstFailed.{Delivery}
+use Rattle.spec_exchange.specs.Calls.{Sealed}
+use Rattle.spec_script.specs.Refusals.{Refusal}
+use Rattle.spec_script.specs.Events.{Event, AddNode, AddContext, AddKeys, Send, Inject, Deliver, Restart}
+use Rattle.spec_script.specs.Steps.{State, Site, Step, refuses, or_refuses, sends_sealed, delivers, has_read, step, step_with}
+
+-- the state over these records
+abbrev over : List Site → List Tree → List Record → State
+over sites wire records = record { sites = sites; wire = wire; records = records }
+
+-- a step that puts nothing, whichever the records
+pub record Same (r q : Step) : Type 0 where
+  pub is : r ≡ q
+  pub none : r.put ≡ None
+
+refused_same : (sites : List Site) (wire : List Tree) (rs qs : List Record) (e : Refusal) → Same (refuses (over sites wire rs) e) (refuses (over sites wire qs) e)
+refused_same sites wire rs qs e = record { is = refl; none = refl }
+
+bind_same : {A : Type 0} (sites : List Site) (wire : List Tree) (rs qs : List Record) (r : Result A Refusal) (k l : A → Result Step Refusal)
+    → ((x : A) → Same (or_refuses (over sites wire rs) (k x)) (or_refuses (over sites wire qs) (l x))) → Same (or_refuses (over sites wire rs) (r >>= k)) (or_refuses (over sites wire qs) (r >>= l))
+unfolding ◌>>=◌
+bind_same sites wire rs qs (Ok x) k l h = h x
+bind_same sites wire rs qs (Err e) k l h = refused_same sites wire rs qs e
+
+unread_same : (sites : List Site) (wire : List Tree) (rs qs : List Record) (reading : Reading) (k l : Unit {0} → Result Step Refusal) → (reading ≡ Read → ⊥)
+    → Same (or_refuses (over sites wire rs) (has_read reading >>= k)) (or_refuses (over sites wire qs) (has_read reading >>= l))
+unfolding ◌>>=◌
+unread_same sites wire rs qs Read k l not_read = absurd (not_read refl)
+unread_same sites wire rs qs ReadFails k l not_read = refused_same sites wire rs qs _
+unread_same sites wire rs qs (BadRecord n) k l not_read = refused_same sites wire rs qs _
+
+sealed_same : (sites : List Site) (wire : List Tree) (rs qs : List Record) (reading : Reading) (o p : Outcome Sealed) → (reading ≡ Read → ⊥)
+    → Same (sends_sealed (over sites wire rs) (behind_reading reading o)) (sends_sealed (over sites wire qs) (behind_reading reading p))
+sealed_same sites wire rs qs Read o p not_read = absurd (not_read refl)
+sealed_same sites wire rs qs ReadFails o p not_read = record { is = refl; none = refl }
+sealed_same sites wire rs qs (BadRecord n) o p not_read = record { is = refl; none = refl }
+
+delivery_same : (sites : List Site) (wire : List Tree) (rs qs : List Record) (reading : Reading) (o p : Outcome Delivery) → (reading ≡ Read → ⊥)
+    → Same (delivers (over sites wire rs) (behind_reading reading o)) (delivers (over sites wire qs) (behind_reading reading p))
+delivery_same sites wire rs qs Read o p not_read = absurd (not_read refl)
+delivery_same sites wire rs qs ReadFails o p not_read = record { is = refl; none = refl }
+delivery_same sites wire rs qs (BadRecord n) o p not_read = record { is = refl; none = refl }
+
+event_same : (sites : List Site) (wire : List Tree) (rs qs : List Record) (f : Choice) → (f.reading ≡ Read → ⊥) → (e : Event) → Same (step (over sites wire rs) f e) (step (over sites wire qs) f e)
+event_same sites wire rs qs f not_read (AddNode node plmn) = bind_same sites wire rs qs _ _ _ λ new. record { is = refl; none = refl }
+event_same sites wire rs qs f not_read (AddContext x) = bind_same sites wire rs qs _ _ _ λ plmn. bind_same sites wire rs qs _ _ _ λ policy. unread_same sites wire rs qs f.reading _ _ not_read
+event_same sites wire rs qs f not_read (AddKeys node id set) = bind_same sites wire rs qs _ _ _ λ plmn. unread_same sites wire rs qs f.reading _ _ not_read
+event_same sites wire rs qs f not_read (Send node id t answers) = bind_same sites wire rs qs _ _ _ λ plmn. bind_same sites wire rs qs _ _ _ λ m. sealed_same sites wire rs qs f.reading _ _ not_read
+event_same sites wire rs qs f not_read (Inject t) = record { is = refl; none = refl }
+event_same sites wire rs qs f not_read (Deliver node number) = bind_same sites wire rs qs _ _ _ λ plmn. bind_same sites wire rs qs _ _ _ λ t. delivery_same sites wire rs qs f.reading _ _ not_read
+event_same sites wire rs qs f not_read (Restart node) = bind_same sites wire rs qs _ _ _ λ plmn. record { is = refl; none = refl }
+
+pub line_same : (sites : List Site) (wire : List Tree) (rs qs : List Record) (f : Choice) → (f.reading ≡ Read → ⊥) → (r : Result Event Refusal)
+    → Same (step_with (record { sites = sites; wire = wire; records = rs }) f r) (step_with (record { sites = sites; wire = wire; records = qs }) f r)
+line_same sites wire rs qs f not_read (Ok e) = event_same sites wire rs qs f not_read e
+line_same sites wire rs qs f not_read (Err e) = refused_same sites wire rs qs e

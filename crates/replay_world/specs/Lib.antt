@@ -1,0 +1,6 @@
+pub mod Worlds
+pub mod Refusing
+pub mod Stepping
+pub mod Sending
+pub mod Handing
+pub mod Fitting

@@ -1,0 +1,103 @@
+-- What a step leaves of a world and its keeper, for the steps of lines and for their parts.
+use Rattle.std.specs.Prelude.{◌≡◌, ◌⊎◌, ℕ, ◌≤◌, List, length, Bool, true, false, Option, None, IfSome, Result, Ok, Err}
+use Rattle.spec_documents.specs.Tree.{Tree}
+use Rattle.spec_protocol.specs.Records.{Record, record_limit}
+use Rattle.n32_outside.specs.Contents.{Stays}
+use Rattle.n32_values.specs.declared.memory.NoMemory.{NoMemory}
+use Rattle.context_store.specs.Stores.{Stored, Holds, IsFirstBad}
+use Rattle.context_calls.specs.Changes.{Keeps, Change}
+use Rattle.spec_exchange.specs.Outside.{Choice, Read, BadRecord}
+use Rattle.spec_script.specs.Steps.{State, Answer, Step, Refuses, with_sent, line_step}
+use Rattle.spec_script.specs.Answers.{answer_text}
+use Rattle.spec_script.specs.Output.{has_refusal, is_keeper_refusal}
+use Rattle.n32_outside.specs.Causes.{Rose}
+use Rattle.script_answers.specs.View.{refusal_view}
+use Rattle.replay_world.specs.Worlds.{sites_view, state_of}
+use Rattle.replay_world.specs.declared.world.World.{World}
+use Rattle.replay_world.specs.declared.unanswered.Unanswered.{Unanswered}
+use Rattle.replay_world.specs.declared.unanswered.Unanswered.TheVariants as unanswered
+
+-- ---- over what a step is
+
+-- a choice of the keeper, and records, that a step may go by
+pub record IsChosen (held : Option (List (List ℕ))) (old : Stored) (f : Choice) (records : List Record) : Type 0 where
+  -- a fresh store is not read
+  pub fresh : old.fresh ≡ true → (f.reading ≡ Read) × (records ≡ old.records)
+  -- what is read are the records that are held, within their limit, and the first of the held texts that is of no record, or one too many, is named
+  pub read : f.reading ≡ Read → Holds held records
+  pub few : old.fresh ≡ false → f.reading ≡ Read → length records ≤ record_limit
+  pub bad : (number : ℕ) → f.reading ≡ BadRecord number → IfSome held (λ texts. IsFirstBad texts number)
+
+-- by the step over the world's nodes and wire, and over a choice and records that are due
+pub record StepBy (steps : State → Choice → Step) (held : Option (List (List ℕ))) (old : World) (Leaves : List Record → Step → Type 0) : Type 0 where
+  pub choice : Choice
+  pub records : List Record
+  pub chosen : IsChosen held old.store choice records
+  pub leaves : Leaves records (steps (state_of old records) choice)
+
+-- ---- what it leaves
+
+-- the step is told, and it is what became of the world, whose wire this was, and of what is held
+pub record Makes (Told : Answer → Type 0) (held now : Option (List (List ℕ))) (wire : List Tree) (new : World) (records : List Record) (r : Step) : Type 0 where
+  pub told : Told r.answer
+  pub sites : sites_view new.sites ≡ r.sites
+  pub sent : new.wire ≡ with_sent wire r.sent
+  pub change : Change held now records new.store r.put
+
+-- what is held may have the step's record more
+abbrev pub HasPut : (held now : Option (List (List ℕ))) → List Record → Step → Type 0
+HasPut held now records r = Keeps held now r.put
+
+-- want of memory leaves the nodes and the wire, and the records as they were or with the step's one record
+pub record GivesUp (steps : State → Choice → Step) (held now : Option (List (List ℕ))) (old new : World) : Type 0 where
+  pub sites : sites_view new.sites ≡ sites_view old.sites
+  pub wire : new.wire ≡ old.wire
+  pub kept : Stays held now ⊎ StepBy steps held old (HasPut held now)
+
+-- ---- what is told of it
+
+abbrev pub is_refusal : Answer → Bool
+is_refusal a = has_refusal (λ e. true) a
+
+-- the text of an answer that is no refusal, or a refusal
+abbrev pub Tells : ℕ → Result (List ℕ) Unanswered → Answer → Type 0
+Tells number (Ok text) a = (text ≡ answer_text number a) × (is_refusal a ≡ false)
+Tells number (Err (unanswered.Refused refusal)) a = a ≡ Refuses (refusal_view refusal)
+Tells number (Err unanswered.NoMemory) a = ⊥
+
+-- the part of a step that these steps are
+abbrev pub Comes : (State → Choice → Step) → (held now : Option (List (List ℕ))) → (old new : World) → ℕ → Result (List ℕ) Unanswered → Type 0
+Comes steps held now old new number (Err unanswered.NoMemory) = GivesUp steps held now old new
+Comes steps held now old new number result = StepBy steps held old (Makes (Tells number result) held now old.wire new)
+
+-- the text of the answer, and KEEPER only where the keeper's count rose
+pub record TellsText (before after_ : ℕ) (number : ℕ) (text : List ℕ) (a : Answer) : Type 0 where
+  pub text_is : text ≡ answer_text number a
+  pub failed : has_refusal is_keeper_refusal a ≡ true → Rose before after_
+
+-- the step of a line
+abbrev pub LineComes : (held now : Option (List (List ℕ))) → (before after_ : ℕ) → (old new : World) → (number : ℕ) → (line : List ℕ) → Result (List ℕ) NoMemory → Type 0
+LineComes held now before after_ old new number line (Ok text) = StepBy (λ s f. line_step s f line) held old (Makes (TellsText before after_ number text) held now old.wire new)
+LineComes held now before after_ old new number line (Err e) = GivesUp (λ s f. line_step s f line) held now old new
+
+-- ---- parts that do without the keeper
+
+-- the records stay, and the store may have become stale
+pub record StoreStays (old new : Stored) : Type 0 where
+  pub fresh : new.fresh ≡ true → old.fresh ≡ true
+  pub records : new.records ≡ old.records
+
+-- a step that is the same over all records and choices, and puts none
+pub record Idles (steps : State → Choice → Step) (old new : World) (number : ℕ) (result : Result (List ℕ) Unanswered) : Type 0 where
+  pub step : Step
+  pub same : (records : List Record) (f : Choice) → steps (state_of old records) f ≡ step
+  pub puts_none : step.put ≡ None
+  pub told : Tells number result step.answer
+  pub sites : sites_view new.sites ≡ step.sites
+  pub wire : new.wire ≡ with_sent old.wire step.sent
+  pub store : StoreStays old.store new.store
+
+-- the same, or want of memory, which leaves the world as it was
+abbrev pub ComesIdly : (State → Choice → Step) → (old new : World) → ℕ → Result (List ℕ) Unanswered → Type 0
+ComesIdly steps old new number (Err unanswered.NoMemory) = new ≡ old
+ComesIdly steps old new number result = Idles steps old new number result

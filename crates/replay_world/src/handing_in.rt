@@ -1,0 +1,250 @@
+// Contexts and keys that are handed in.
+ghost use Rattle.std.specs.Prelude.{◌≡◌, ◌≤◌, length, true, IsErrOf, IsTrue};
+ghost use Rattle.n32_outside.specs.Causes.{Rose};
+ghost use Rattle.spec_documents.specs.Text.{is_node_name};
+ghost use Rattle.spec_protocol.specs.Records as records;
+ghost use Rattle.spec_protocol.specs.RecordDocument.{is_well_named};
+ghost use Rattle.session_records.specs.View.{context_view, key_set_view, key_view, one_key_view, record_view, suite_view};
+ghost use Rattle.script_events.specs.View.{handed_view};
+ghost use Rattle.spec_script.specs.Events.{AddContext, AddKeys};
+ghost use Rattle.spec_script.specs.Steps as spec;
+ghost use Rattle.replay_world.specs.Refusing.{Gives, SparesKeeper};
+ghost use Rattle.replay_world.specs.Worlds.{IsReady};
+ghost use Rattle.replay_world.specs.Stepping.{Comes};
+ghost use Rattle.replay_world.specs.Handing.{context_to_open, keys_may_come, keys_new, opens_new, puts_record};
+ghost use Rattle.replay_world.specs.Fitting.{IsFit};
+
+use crate::sites::is_known;
+use crate::unanswered::{Unanswered, unread, unrecorded};
+use crate::world::World;
+use context_store::Store;
+use jwe_flat::{ContentKey, Suite};
+use n32_outside::Keeper;
+use n32_values::{Bytes, Hex64, Text};
+use policy_documents::{PolicyRead, read_policy};
+use script_answers::{Refusal, done_text};
+use script_events::HandedContext;
+use session_records::{Context, KeySet, OneKey, Record};
+use std::alloc::Global;
+
+fn suite_key_length(suite: Suite) -> usize
+    ensures { result ≡ records.key_length (suite_view suite) }
+{
+    match suite {
+        Suite::A128Gcm => 16,
+        Suite::A256Gcm => 32,
+    }
+}
+
+fn key_length(key: &ContentKey) -> usize
+    ensures { result ≡ length (key_view key.now) }
+{
+    match key {
+        ContentKey::Aes128(key) => key.key().len(),
+        ContentKey::Aes256(key) => key.key().len(),
+    }
+}
+
+fn key_fits(suite: Suite, key: &OneKey) -> bool
+    ensures { result ≡ records.key_fits (suite_view suite) (one_key_view key.now) }
+{
+    key_length(&key.key) == suite_key_length(suite)
+}
+
+fn keys_fit(suite: Suite, keys: &KeySet) -> bool
+    ensures { result ≡ records.keys_fit (suite_view suite) (key_set_view keys.now) }
+{
+    key_fits(suite, &keys.send_request)
+        && key_fits(suite, &keys.send_response)
+        && key_fits(suite, &keys.receive_request)
+        && key_fits(suite, &keys.receive_response)
+}
+
+// The context that is handed in, with the policy that its document is of.
+#[tactic(auto, unfolding(spec_exchange::specs::Chain::chains))]
+fn context_of(alloc: Global, handed: HandedContext) -> Result<Context, Unanswered>
+    ensures gives { Gives context_view result (context_to_open (handed_view handed)) }
+    ensures spares { SparesKeeper result }
+{
+    let policy = match read_policy(alloc, &handed.policy) {
+        Ok(policy) => policy,
+        Err(PolicyRead::Form(mapping)) => {
+            return Err(Unanswered::Refused(Refusal::PolicyForm(mapping)));
+        }
+        Err(PolicyRead::NoMemory) => return Err(Unanswered::NoMemory),
+    };
+    let HandedContext {
+        node,
+        id,
+        peer_node,
+        peer,
+        plmn,
+        suite,
+        policy: _,
+        own_ipx,
+        peer_ipx,
+    } = handed;
+    Ok(Context {
+        node,
+        id,
+        peer_node,
+        peer,
+        plmn,
+        suite,
+        policy,
+        own_ipx,
+        peer_ipx,
+    })
+}
+
+// Puts the record of the event of that name, over a fresh store.
+fn put_record<K: Keeper>(
+    alloc: Global,
+    world: &mut World,
+    keeper: &mut K,
+    number: u64,
+    name: &str,
+    item: Record,
+) -> Result<Bytes, Unanswered>
+    requires ready { IsReady (K.held keeper.old) world.old }
+    requires fresh { world.old.store.fresh ≡ true }
+    requires names { IsTrue (is_well_named (record_view item)) }
+    ensures comes { Comes (puts_record name.now (record_view item)) (K.held keeper.old) (K.held keeper.new) world.old world.new number result }
+    ensures ready { IsReady (K.held keeper.new) world.new }
+    ensures later { K.faults keeper.old ≤ K.faults keeper.new }
+    ensures failed { IsErrOf result (Unanswered.Refused Refusal.Keeper) → Rose (K.faults keeper.old) (K.faults keeper.new) }
+{
+    let text = done_text(alloc, number, name)?;
+    match world.store.add(alloc, keeper, item) {
+        Ok(_) => Ok(text),
+        Err(fault) => Err(unrecorded(fault)),
+    }
+}
+
+// Opens a context whose id isn't used.
+fn open_context<K: Keeper>(
+    alloc: Global,
+    world: &mut World,
+    keeper: &mut K,
+    number: u64,
+    context: Context,
+) -> Result<Bytes, Unanswered>
+    requires ready { IsReady (K.held keeper.old) world.old }
+    requires fresh { world.old.store.fresh ≡ true }
+    requires names { IsTrue (is_well_named (records.Opened (context_view context))) }
+    ensures comes { Comes (opens_new (context_view context)) (K.held keeper.old) (K.held keeper.new) world.old world.new number result }
+    ensures ready { IsReady (K.held keeper.new) world.new }
+    ensures later { K.faults keeper.old ≤ K.faults keeper.new }
+    ensures failed { IsErrOf result (Unanswered.Refused Refusal.Keeper) → Rose (K.faults keeper.old) (K.faults keeper.new) }
+{
+    if world.store.used(&context.node, context.id) {
+        return Err(Unanswered::Refused(Refusal::ContextUsed));
+    }
+    put_record(
+        alloc,
+        world,
+        keeper,
+        number,
+        "context",
+        Record::Opened(context),
+    )
+}
+
+/// A context is handed in.
+pub(crate) fn hand_in_context<K: Keeper>(
+    alloc: Global,
+    world: &mut World,
+    keeper: &mut K,
+    number: u64,
+    handed: HandedContext,
+) -> Result<Bytes, Unanswered>
+    requires ready { IsReady (K.held keeper.old) world.old }
+    requires fit { IsFit (AddContext (handed_view handed)) }
+    ensures comes { Comes (λ s f. spec.step s f (AddContext (handed_view handed))) (K.held keeper.old) (K.held keeper.new) world.old world.new number result }
+    ensures ready { IsReady (K.held keeper.new) world.new }
+    ensures later { K.faults keeper.old ≤ K.faults keeper.new }
+    ensures failed { IsErrOf result (Unanswered.Refused Refusal.Keeper) → Rose (K.faults keeper.old) (K.faults keeper.new) }
+{
+    if !is_known(&world.sites, &handed.node) {
+        return Err(Unanswered::Refused(Refusal::NodeUnknown));
+    }
+    let context = match context_of(alloc, handed) {
+        Ok(context) => context,
+        Err(why) => return Err(why),
+    };
+    match world.store.refresh(alloc, keeper) {
+        Ok(()) => open_context(alloc, world, keeper, number, context),
+        Err(fault) => Err(unread(fault)),
+    }
+}
+
+// Whether the keys may be handed in: the context is open, has none yet, and they fit its suite.
+#[tactic(auto, unfolding(spec_exchange::specs::Chain::chains))]
+fn check_keys(store: &Store, node: &Text, id: Hex64, keys: &KeySet) -> Result<(), Unanswered>
+    ensures gives { Gives (λ _. tt) result (keys_may_come store.now.records node.now id.value (key_set_view keys.now)) }
+    ensures spares { SparesKeeper result }
+{
+    let Some(context) = store.context(node, id) else {
+        return Err(Unanswered::Refused(Refusal::ContextNotFound));
+    };
+    if store.keys(node, id).is_some() {
+        return Err(Unanswered::Refused(Refusal::KeysTwice));
+    }
+    if !keys_fit(context.suite, keys) {
+        return Err(Unanswered::Refused(Refusal::Event("key")));
+    }
+    Ok(())
+}
+
+// Records the keys of a context that has none.
+fn record_keys<K: Keeper>(
+    alloc: Global,
+    world: &mut World,
+    keeper: &mut K,
+    number: u64,
+    node: Text,
+    id: Hex64,
+    keys: KeySet,
+) -> Result<Bytes, Unanswered>
+    requires ready { IsReady (K.held keeper.old) world.old }
+    requires fresh { world.old.store.fresh ≡ true }
+    requires name { IsTrue (is_node_name node) }
+    ensures comes { Comes (keys_new node id.value (key_set_view keys)) (K.held keeper.old) (K.held keeper.new) world.old world.new number result }
+    ensures ready { IsReady (K.held keeper.new) world.new }
+    ensures later { K.faults keeper.old ≤ K.faults keeper.new }
+    ensures failed { IsErrOf result (Unanswered.Refused Refusal.Keeper) → Rose (K.faults keeper.old) (K.faults keeper.new) }
+{
+    match check_keys(&world.store, &node, id, &keys) {
+        Ok(()) => {
+            let item = Record::Keyed { node, id, keys };
+            put_record(alloc, world, keeper, number, "keys", item)
+        }
+        Err(why) => Err(why),
+    }
+}
+
+/// The keys of a context are handed in.
+pub(crate) fn hand_in_keys<K: Keeper>(
+    alloc: Global,
+    world: &mut World,
+    keeper: &mut K,
+    number: u64,
+    node: Text,
+    id: Hex64,
+    keys: KeySet,
+) -> Result<Bytes, Unanswered>
+    requires ready { IsReady (K.held keeper.old) world.old }
+    requires name { IsTrue (is_node_name node) }
+    ensures comes { Comes (λ s f. spec.step s f (AddKeys node id.value (key_set_view keys))) (K.held keeper.old) (K.held keeper.new) world.old world.new number result }
+    ensures ready { IsReady (K.held keeper.new) world.new }
+    ensures later { K.faults keeper.old ≤ K.faults keeper.new }
+    ensures failed { IsErrOf result (Unanswered.Refused Refusal.Keeper) → Rose (K.faults keeper.old) (K.faults keeper.new) }
+{
+    if !is_known(&world.sites, &node) {
+        return Err(Unanswered::Refused(Refusal::NodeUnknown));
+    }
+    match world.store.refresh(alloc, keeper) {
+        Ok(()) => record_keys(alloc, world, keeper, number, node, id, keys),
+        Err(fault) => Err(unread(fault)),
+    }
+}

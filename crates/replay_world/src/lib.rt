@@ -1,0 +1,13 @@
+//! The world of a replay: its nodes, wire and records, and one answer for each event of a script.
+#![tactic(auto)]
+
+mod answering;
+mod handing_in;
+mod reading;
+mod sites;
+mod traffic;
+mod unanswered;
+mod world;
+
+pub use answering::step;
+pub use world::{Site, SiteList, World, load_world, new_world};

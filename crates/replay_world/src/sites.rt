@@ -1,0 +1,64 @@
+// The nodes: added, looked up and begun anew.
+ghost use Rattle.std.specs.Prelude.{◌≡◌, is_some, List, Option, ℕ};
+ghost use Rattle.spec_script.specs.Events.{AddNode, Restart};
+ghost use Rattle.spec_script.specs.Steps as spec;
+ghost use Rattle.replay_world.specs.Worlds.{IsReady, sites_view};
+ghost use Rattle.replay_world.specs.Refusing.{SparesKeeper};
+ghost use Rattle.replay_world.specs.Stepping.{ComesIdly};
+
+use crate::unanswered::Unanswered;
+use crate::world::{Site, SiteList, World};
+use n32_values::{Bytes, PlmnId, Text};
+use script_answers::{Refusal, done_text};
+use std::alloc::Global;
+
+/// Whether a node has this name.
+pub(crate) fn is_known(sites: &SiteList, node: &Text) -> bool
+    ensures { result ≡ is_some (spec.plmn_at (sites_view sites.now) node.now) }
+{
+    for site in sites.as_slice() {
+        if site.node.as_str() == node.as_str() {
+            return true;
+        }
+    }
+    false
+}
+
+/// A node begins to work.
+pub(crate) fn add_node(
+    alloc: Global,
+    world: &mut World,
+    number: u64,
+    node: Text,
+    plmn: PlmnId,
+) -> Result<Bytes, Unanswered>
+    ensures comes { ComesIdly (λ s f. spec.step s f (AddNode node plmn)) world.old world.new number result }
+    ensures ready { (held : Option (List (List ℕ))) → IsReady held world.old → IsReady held world.new }
+    ensures spares { SparesKeeper result }
+{
+    if is_known(&world.sites, &node) {
+        return Err(Unanswered::Refused(Refusal::NodeExists));
+    }
+    let text = done_text(alloc, number, "node")?;
+    world.sites.push(Site { node, plmn })?;
+    Ok(text)
+}
+
+/// A node begins anew: the records are read again at the next event that asks for them.
+pub(crate) fn restart(
+    alloc: Global,
+    world: &mut World,
+    number: u64,
+    node: &Text,
+) -> Result<Bytes, Unanswered>
+    ensures comes { ComesIdly (λ s f. spec.step s f (Restart node.now)) world.old world.new number result }
+    ensures ready { (held : Option (List (List ℕ))) → IsReady held world.old → IsReady held world.new }
+    ensures spares { SparesKeeper result }
+{
+    if !is_known(&world.sites, node) {
+        return Err(Unanswered::Refused(Refusal::NodeUnknown));
+    }
+    let text = done_text(alloc, number, "restart")?;
+    world.store.forget();
+    Ok(text)
+}
