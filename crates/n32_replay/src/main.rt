@@ -1,18 +1,12 @@
 //! `n32_replay`: reads a script on standard input, line by line, and writes one answer line for each line.
 //!
-//! `n32_replay blocks` answers each request with its integrity-protected block under the empty policy.
+//! `n32_replay blocks` answers each request with its integrity-protected block under the empty policy. `n32_replay replay [FILE]`
+//! answers the events of a script, over records in memory or in the journal FILE.
 #![tactic(auto)]
 
-mod answers;
-mod blocks;
-mod command;
-mod refusal;
-mod run;
-mod status;
-
-use n32_outside::{StdSink, StdSource};
+use n32_outside::{FailList, FileKeeper, Keeper, MemKeeper, StdSink, StdSource};
 use n32_values::{Text, TextList};
-use status::Status;
+use replay_runs::{Status, journal_file, run};
 use std::env;
 use std::io::{self, ErrorKind};
 use std::process::ExitCode;
@@ -33,13 +27,27 @@ fn read_words(rt: &HostRuntime) -> Result<TextList, Status> {
     Ok(words)
 }
 
+fn run_over<K: Keeper>(rt: &HostRuntime, words: &TextList, keeper: &mut K) -> Status {
+    let mut source = StdSource::new(rt.reader());
+    let mut sink = StdSink::new(io::writer(rt));
+    run(rt.alloc(), words, &mut source, &mut sink, keeper)
+}
+
+// The records are kept in the file that the words name, or in memory.
+fn run_over_records(rt: &HostRuntime, words: &TextList) -> Status {
+    let Some(file) = journal_file(words) else {
+        let mut keeper = MemKeeper::new(rt.alloc(), FailList::new(rt.alloc()));
+        return run_over(rt, words, &mut keeper);
+    };
+    match FileKeeper::new(rt, rt.alloc(), file.as_str()) {
+        Ok(mut keeper) => run_over(rt, words, &mut keeper),
+        Err(_) => Status::NoMemory,
+    }
+}
+
 fn run_over_streams(rt: &HostRuntime) -> Status {
     match read_words(rt) {
-        Ok(words) => {
-            let mut source = StdSource::new(rt.reader());
-            let mut sink = StdSink::new(io::writer(rt));
-            run::run(rt.alloc(), &words, &mut source, &mut sink)
-        }
+        Ok(words) => run_over_records(rt, &words),
         Err(status) => status,
     }
 }
@@ -52,6 +60,3 @@ fn main(rt: HostRuntime) -> ExitCode {
     }
     ExitCode::from(status.exit())
 }
-
-#[cfg(test)]
-mod tests;

@@ -1,0 +1,7 @@
+pub mod BlockLemmas
+pub mod Read
+pub mod Plain
+pub mod Rooms
+pub mod Went
+pub mod Left
+pub mod Loaded

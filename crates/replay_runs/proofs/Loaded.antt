@@ -1,0 +1,233 @@
+-- From the run over loaded records to the whole run: the keeper's faults are counted from before the load, and the load may end the run.
+use Rattle.std.proofs.Common.{◌≡◌, ◌≢◌, ⊎_elim, ◌<◌, ◌≤◌, ◌+◌, ◌-◌, ℕ, zero, suc, List, [], ◌∷◌, ◌++◌, length, take, drop, slice_get, refl, ap, sym, subst, ◌∙◌, arith, append-nil, append_assoc, None, Some, IfSome}
+use Rattle.std.specs.Prelude.{Option}
+use Rattle.std.specs.Io.KnownBytes.{Appends}
+use Rattle.std.proofs.KnownBytes.{Appends-nil}
+use Rattle.std.proofs.lemmas.Bool.{cases_lt}
+use Rattle.std.proofs.lemmas.List.{take-append-drop}
+use Rattle.n32_outside.specs.Contents.{Stays}
+use Rattle.script_loop.specs.Limits.{script_limit}
+use Rattle.script_loop.specs.Lines.{lines_of, ended_lines, IsWithin}
+use Rattle.spec_protocol.specs.Records.{Record}
+use Rattle.session_records.specs.Reading.{ReadsRecord}
+use Rattle.spec_script.specs.Steps.{State}
+use Rattle.spec_script.specs.Output.{Answered, Numbered, Output, answers_text, begin}
+use Rattle.context_store.specs.Stores.{AreRecords, HasNoBad, IsNoRecord, IsFirstBad}
+use Rattle.context_store.proofs.Kept.{has_no_bad}
+use Rattle.replay_world.specs.Worlds.{TellsRecords}
+use Rattle.replay_runs.specs.Unfailing.{plain_answers, plain_state}
+use Rattle.replay_runs.specs.Replays.{KeeperAnswers, RepliesToAll, RepliesToFirst, RepliesInPart, Leaves, WritesFront, OverRecords, AreHeld, IsComplete}
+use Rattle.replay_runs.specs.Loads.{IsRefused, NamesBad, AtLoad, Untouched}
+use Rattle.replay_runs.specs.Lines.{IsOfLines}
+use Rattle.replay_runs.specs.declared.status.Status.{Status}
+use Rattle.replay_runs.specs.declared.status.Status.TheVariants as status
+use Rattle.replay_runs.proofs.Plain.{answered_then, text-append, plain_answered}
+
+-- ---- counted from before the load
+
+earlier_keeper : (answers : List Numbered) (first faults faults' : ℕ) → first ≤ faults → KeeperAnswers answers faults faults' → KeeperAnswers answers first faults'
+earlier_keeper answers first faults faults' le k = record { faults = omega (arith, k.faults, le); sound = k.sound }
+
+earlier_all : (script : List ℕ) (records : List Record) (held : Option (List (List ℕ))) (first faults faults' : ℕ) (before after : Option (List ℕ)) → first ≤ faults → RepliesToAll script records held faults faults' before after → RepliesToAll script records held first faults' before after
+earlier_all script records held first faults faults' before after le a = record {
+  out = a.out;
+  last = a.last;
+  output = a.output;
+  written = a.written;
+  held_is = a.held_is;
+  keeper = earlier_keeper a.output.answers first faults faults' le a.keeper;
+  one = λ none. a.one (λ rose. none (omega (arith, rose, le)));
+}
+
+earlier_first : (count : ℕ) (script : List ℕ) (records : List Record) (held : Option (List (List ℕ))) (first faults faults' : ℕ) (before after : Option (List ℕ)) → first ≤ faults → RepliesToFirst count script records held faults faults' before after → RepliesToFirst count script records held first faults' before after
+earlier_first count script records held first faults faults' before after le a = record {
+  answers = a.answers;
+  last = a.last;
+  answered = a.answered;
+  written = a.written;
+  held_is = a.held_is;
+  keeper = earlier_keeper a.answers first faults faults' le a.keeper;
+}
+
+earlier_part : (script : List ℕ) (records : List Record) (first faults faults' : ℕ) (before after : Option (List ℕ)) → first ≤ faults → RepliesInPart script records faults faults' before after → RepliesInPart script records first faults' before after
+earlier_part script records first faults faults' before after le a = record {
+  count = a.count;
+  answers = a.answers;
+  last = a.last;
+  answered = a.answered;
+  size = a.size;
+  written = a.written;
+  keeper = earlier_keeper a.answers first faults faults' le a.keeper;
+}
+
+earlier : (script : List ℕ) (left : Option (List ℕ)) (records : List Record) (held : Option (List (List ℕ))) (first faults faults' : ℕ) (before after : Option (List ℕ)) (s : Status) → first ≤ faults
+    → Leaves script left records held faults faults' before after s → Leaves script left records held first faults' before after s
+earlier script left records held first faults faults' before after status.Done le e = (e.0, e.1, earlier_all script records held first faults faults' before after le e.2)
+earlier script left records held first faults faults' before after status.ReadFault le e = record {
+  taken = e.taken;
+  rest = e.rest;
+  parts = e.parts;
+  left_is = e.left_is;
+  replies = earlier_first (ended_lines e.taken) script records held first faults faults' before after le e.replies;
+}
+earlier script left records held first faults faults' before after (status.LineTooLong n) le e = (e.0, earlier_first (n - 1) script records held first faults faults' before after le e.1)
+earlier script left records held first faults faults' before after status.ScriptTooLarge le e = (e.0, earlier_first (ended_lines (take script_limit script)) script records held first faults faults' before after le e.1)
+earlier script left records held first faults faults' before after status.WriteFault le e = earlier_part script records first faults faults' before after le e
+earlier script left records held first faults faults' before after status.NoMemory le e = earlier_part script records first faults faults' before after le e
+earlier script left records held first faults faults' before after (status.Journal k) le e = e
+earlier script left records held first faults faults' before after status.KeeperFault le e = e
+earlier script left records held first faults faults' before after status.Words le e = absurd e
+
+over_weaker : (held : Option (List (List ℕ))) (P Q : List Record → Type 0) → ((records : List Record) → P records → Q records) → OverRecords held P → OverRecords held Q
+over_weaker None P Q f h = tt
+over_weaker (Some texts) P Q f h = λ records are. f records (h records are)
+
+over_any : (held : Option (List (List ℕ))) (P : List Record → Type 0) → ((records : List Record) → TellsRecords held records → P records) → OverRecords held P
+over_any None P f = tt
+over_any (Some texts) P f = λ records are. f records (record { texts = texts; told = refl; are = are })
+
+pub loaded_leaves : (first left : Option (List ℕ)) (held loaded held' : Option (List (List ℕ))) (faults faults' faults'' : ℕ) (before after : Option (List ℕ)) (s : Status) → loaded ≡ held → faults ≤ faults'
+    → IfSome first (λ script. OverRecords loaded (λ records. Leaves script left records held' faults' faults'' before after s))
+    → IfSome first (λ script. OverRecords held (λ records. Leaves script left records held' faults faults'' before after s))
+loaded_leaves None left held loaded held' faults faults' faults'' before after s same le e = tt
+loaded_leaves (Some script) left held loaded held' faults faults' faults'' before after s same le e =
+    let P : Option (List (List ℕ)) → Type 0 = λ o. OverRecords o (λ records. Leaves script left records held' faults' faults'' before after s) in
+    over_weaker held (λ records. Leaves script left records held' faults' faults'' before after s) (λ records. Leaves script left records held' faults faults'' before after s)
+    (λ records. earlier script left records held' faults faults' faults'' before after s le) (subst P same e)
+
+-- ---- the load ended the run
+
+nothing_replied : (script : List ℕ) (records : List Record) (faults faults' : ℕ) (written : Option (List ℕ)) → faults ≤ faults' → RepliesInPart script records faults faults' written written
+nothing_replied script records faults faults' written le = record {
+  count = 0;
+  answers = [];
+  last = begin records;
+  answered = (refl, refl);
+  size = 0;
+  written = Appends-nil written;
+  keeper = record { faults = omega (arith, le); sound = refl };
+}
+
+pub memory_leaves : (first : Option (List ℕ)) (held held' : Option (List (List ℕ))) (faults faults' : ℕ) (written : Option (List ℕ)) → faults ≤ faults'
+    → IfSome first (λ script. OverRecords held (λ records. Leaves script first records held' faults faults' written written status.NoMemory))
+memory_leaves None held held' faults faults' written le = tt
+memory_leaves (Some script) held held' faults faults' written le =
+    over_any held (λ records. Leaves script (Some script) records held' faults faults' written written status.NoMemory) (λ records t. nothing_replied script records faults faults' written le)
+
+-- ---- a front of an output
+
+-- the answers to some first lines begin an output
+record BeginsOutput (script : List ℕ) (records : List Record) (answers : List Numbered) : Type 0 where
+  whole : List Numbered
+  last : State
+  output : Output records script (answers_text whole) last
+  rest : List ℕ
+  parts : answers_text whole ≡ answers_text answers ++ rest
+
+begins_output : (count : ℕ) (script : List ℕ) (records : List Record) (answers : List Numbered) (mid : State) → Answered (begin records) 1 (take count (lines_of script)) answers mid → BeginsOutput script records answers
+begins_output count script records answers mid answered =
+    let lines : List (List ℕ) = take count (lines_of script) in
+    let others : List (List ℕ) = drop count (lines_of script) in
+    let more : List Numbered = plain_answers mid (1 + length lines) others in
+    let P : List (List ℕ) → Type 0 = λ ls. Answered (begin records) 1 ls (answers ++ more) (plain_state mid others) in
+    record {
+      whole = answers ++ more;
+      last = plain_state mid others;
+      output = record {
+        answers = answers ++ more;
+        answered = subst P (take-append-drop count (lines_of script)) (answered_then (begin records) 1 lines answers mid (1 + length lines) others more (plain_state mid others) refl answered (plain_answered mid (1 + length lines) others));
+        text = refl;
+      };
+      rest = answers_text more;
+      parts = text-append answers more;
+    }
+
+front_of_first : (count : ℕ) (script : List ℕ) (records : List Record) (held : Option (List (List ℕ))) (faults faults' : ℕ) (before after : Option (List ℕ)) → RepliesToFirst count script records held faults faults' before after → WritesFront script records before after
+front_of_first count script records held faults faults' before after a =
+    let b = begins_output count script records a.answers a.last a.answered in
+    record { out = answers_text b.whole; last = b.last; output = b.output; front = answers_text a.answers; rest = b.rest; parts = b.parts; written = a.written }
+
+front_of_part : (script : List ℕ) (records : List Record) (faults faults' : ℕ) (before after : Option (List ℕ)) → RepliesInPart script records faults faults' before after → WritesFront script records before after
+front_of_part script records faults faults' before after a =
+    let b = begins_output a.count script records a.answers a.last a.answered in
+    let text : List ℕ = answers_text a.answers in
+    record {
+      out = answers_text b.whole;
+      last = b.last;
+      output = b.output;
+      front = take a.size text;
+      rest = drop a.size text ++ b.rest;
+      parts = b.parts ∙ (ap (λ (z : List ℕ). z ++ b.rest) (sym (take-append-drop a.size text)) ∙ append_assoc (take a.size text) (drop a.size text) b.rest);
+      written = a.written;
+    }
+
+front_of_none : (script : List ℕ) (records : List Record) (before after : Option (List ℕ)) → after ≡ before → WritesFront script records before after
+front_of_none script records before after same =
+    let b = begins_output 0 script records [] (begin records) (refl, refl) in
+    let P : Option (List ℕ) → Type 0 = λ o. Appends before o [] in
+    record { out = answers_text b.whole; last = b.last; output = b.output; front = []; rest = b.rest; parts = b.parts; written = subst P (sym same) (Appends-nil before) }
+
+front_of : (script : List ℕ) (left : Option (List ℕ)) (records : List Record) (held : Option (List (List ℕ))) (faults faults' : ℕ) (before after : Option (List ℕ)) (s : Status)
+    → Leaves script left records held faults faults' before after s → WritesFront script records before after
+front_of script left records held faults faults' before after status.Done e =
+    let a = e.2 in
+    record { out = a.out; last = a.last; output = a.output; front = a.out; rest = []; parts = sym (append-nil a.out); written = a.written }
+front_of script left records held faults faults' before after status.ReadFault e = front_of_first (ended_lines e.taken) script records held faults faults' before after e.replies
+front_of script left records held faults faults' before after (status.LineTooLong n) e = front_of_first (n - 1) script records held faults faults' before after e.1
+front_of script left records held faults faults' before after status.ScriptTooLarge e = front_of_first (ended_lines (take script_limit script)) script records held faults faults' before after e.1
+front_of script left records held faults faults' before after status.WriteFault e = front_of_part script records faults faults' before after e
+front_of script left records held faults faults' before after status.NoMemory e = front_of_part script records faults faults' before after e
+front_of script left records held faults faults' before after (status.Journal k) e = front_of_none script records before after e.0
+front_of script left records held faults faults' before after status.KeeperFault e = front_of_none script records before after e.0
+front_of script left records held faults faults' before after status.Words e = absurd e
+
+pub front_told : (first left : Option (List ℕ)) (held held' : Option (List (List ℕ))) (faults faults' : ℕ) (before after : Option (List ℕ)) (s : Status)
+    → IfSome first (λ script. OverRecords held (λ records. Leaves script left records held' faults faults' before after s))
+    → IfSome first (λ script. OverRecords held (λ records. WritesFront script records before after))
+front_told None left held held' faults faults' before after s e = tt
+front_told (Some script) left held held' faults faults' before after s e =
+    over_weaker held (λ records. Leaves script left records held' faults faults' before after s) (λ records. WritesFront script records before after)
+    (λ records. front_of script left records held' faults faults' before after s) e
+
+-- nothing was written
+pub none_told : (first : Option (List ℕ)) (held : Option (List (List ℕ))) (written : Option (List ℕ)) → IfSome first (λ script. OverRecords held (λ records. WritesFront script records written written))
+none_told None held written = tt
+none_told (Some script) held written = over_any held (λ records. WritesFront script records written written) (λ records t. front_of_none script records written written refl)
+
+-- ---- bad records
+
+-- a text among the first k, which are records, is one
+record_at : (k : ℕ) (texts : List (List ℕ)) (records : List Record) (j : ℕ) (b : List ℕ) → AreRecords (take k texts) records → j < k → slice_get texts j ≡ Some b → IsNoRecord b → ⊥
+record_at zero texts records j b all lt there none = omega (arith, lt)
+record_at (suc k) [] records j b all lt there none = cc
+record_at (suc k) (c ∷ cs) [] j b all lt there none = all
+record_at (suc k) (c ∷ cs) (r ∷ rs) zero b all lt there none = let same : c ≡ b = cc in none r (subst (λ d. ReadsRecord d r) same all.0)
+record_at (suc k) (c ∷ cs) (r ∷ rs) (suc j) b all lt there none = record_at k cs rs j b all.1 (omega (arith, lt)) there none
+
+not_before : (texts : List (List ℕ)) (j k : ℕ) → IsFirstBad texts j → IsFirstBad texts k → j < k → ⊥
+not_before texts j k a b lt = ⊎_elim (λ none. record_at k texts b.before j a.text b.good lt a.there none) (λ limit. omega (arith, lt, limit, b.few)) a.bad
+
+-- one text is the first bad one
+one_bad : (texts : List (List ℕ)) (j k : ℕ) → IsFirstBad texts j → IsFirstBad texts k → j ≡ k
+one_bad texts j k a b = ⊎_elim (λ lt. absurd (not_before texts j k a b lt)) (λ le. ⊎_elim (λ gt. absurd (not_before texts k j b a gt)) (λ ge. omega (arith, le, ge)) (cases_lt k j)) (cases_lt j k)
+
+-- the records were read, and none is bad
+pub bad_none : (held loaded : Option (List (List ℕ))) (P : ℕ → Type 0) → loaded ≡ held → HasNoBad loaded → IfSome held (λ texts. (k : ℕ) → IsFirstBad texts k → P k)
+bad_none None loaded P same sound = tt
+bad_none (Some texts) loaded P same sound = λ k bad. let Q : Option (List (List ℕ)) → Type 0 = λ o. HasNoBad o in absurd (subst Q same sound k bad)
+
+pub bad_named : {S O : Type 0} (held now : Option (List (List ℕ))) (j : ℕ) (source : S) (sink : O) → Stays held now → IfSome held (λ texts. IsFirstBad texts j)
+    → IfSome held (λ texts. (k : ℕ) → IsFirstBad texts k → IsRefused k (status.Journal j) × Untouched source source sink sink held now)
+bad_named None now j source sink same named = tt
+bad_named (Some texts) now j source sink same named = λ k bad. (one_bad texts j k named bad, record { source_stays = refl; sink_stays = refl; held_stays = same })
+
+-- ---- completeness
+
+-- where a text is bad not all are held
+none_held : (held : Option (List (List ℕ))) (k : ℕ) (P : Type 0) → IfSome held (λ texts. IsFirstBad texts k) → IfSome held (λ texts. AreHeld texts → P)
+none_held None k P named = tt
+none_held (Some texts) k P named = λ h. absurd (has_no_bad (Some texts) h.records h.are h.few k named)
+
+pub journal_complete : (first : Option (List ℕ)) (held : Option (List (List ℕ))) (k : ℕ) (P : Type 0) → IfSome held (λ texts. IsFirstBad texts k) → IfSome first (λ script. IsWithin script → IfSome held (λ texts. AreHeld texts → P))
+journal_complete None held k P named = tt
+journal_complete (Some script) held k P named = λ within. none_held held k P named

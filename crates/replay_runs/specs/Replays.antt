@@ -1,0 +1,133 @@
+-- What a run of `replay` leaves, by its status: the replay theorem.
+use Rattle.std.specs.Prelude.{◌≡◌, ⊤, ℕ, ◌+◌, ◌-◌, ◌≤◌, Bool, true, false, List, [], ◌++◌, length, take, count_by, Option, Some, IfSome}
+use Rattle.std.specs.Io.KnownBytes.{Appends}
+use Rattle.n32_outside.specs.Causes.{Rose, RoseBy}
+use Rattle.script_loop.specs.Limits.{script_limit}
+use Rattle.script_loop.specs.Lines.{lines_of, ended_lines, IsFirstLong, IsWithin, IsTooLarge}
+use Rattle.spec_protocol.specs.Records.{Record, record_limit}
+use Rattle.spec_exchange.specs.Refusals.{Journal}
+use Rattle.spec_script.specs.Refusals.{Refusal, OfCall}
+use Rattle.spec_script.specs.Steps.{State}
+use Rattle.spec_script.specs.Output.{Numbered, Answered, Output, answers_text, begin, has_refusal, is_keeper_refusal}
+use Rattle.context_store.specs.Stores.{AreRecords}
+use Rattle.replay_world.specs.Worlds.{TellsRecords}
+use Rattle.replay_runs.specs.Unfailing.{plain_output, plain_state}
+use Rattle.replay_runs.specs.declared.status.Status.{Status}
+use Rattle.replay_runs.specs.declared.status.Status.TheVariants as status
+
+-- ---- answers
+
+-- `KEEPER`
+abbrev pub tells_keeper : Numbered → Bool
+tells_keeper x = has_refusal is_keeper_refusal x.1
+
+abbrev pub is_journal_refusal : Refusal → Bool
+is_journal_refusal (OfCall (Journal number)) = true
+is_journal_refusal _ = false
+
+-- `JOURNAL`
+abbrev pub tells_journal : Numbered → Bool
+tells_journal x = has_refusal is_journal_refusal x.1
+
+-- how the keeper stands in a run's answers, by its counts of faults before and after the run
+pub record KeeperAnswers (answers : List Numbered) (before after : ℕ) : Type 0 where
+  -- at most as many answers are `KEEPER` as the keeper failed
+  pub faults : RoseBy (count_by tells_keeper answers) before after
+  -- none is `JOURNAL`: the keeper's records were read at the start, and each later one is a record
+  pub sound : count_by tells_journal answers ≡ 0
+
+-- ---- what was answered, and what is held then
+
+-- The whole script was answered.
+pub record RepliesToAll (script : List ℕ) (records : List Record) (held : Option (List (List ℕ))) (faults faults' : ℕ) (before after : Option (List ℕ)) : Type 0 where
+  pub out : List ℕ
+  pub last : State
+  pub output : Output records script out last
+  -- the output was written
+  pub written : Appends before after out
+  -- the keeper holds the records of the last state
+  pub held_is : TellsRecords held last.records
+  pub keeper : KeeperAnswers output.answers faults faults'
+  -- where the keeper didn't fail there is one output, and one last state
+  pub one : (Rose faults faults' → ⊥) → (out ≡ plain_output records script) × (last ≡ plain_state (begin records) (lines_of script))
+
+-- The first so many lines were answered, and nothing else.
+pub record RepliesToFirst (count : ℕ) (script : List ℕ) (records : List Record) (held : Option (List (List ℕ))) (faults faults' : ℕ) (before after : Option (List ℕ)) : Type 0 where
+  pub answers : List Numbered
+  pub last : State
+  pub answered : Answered (begin records) 1 (take count (lines_of script)) answers last
+  pub written : Appends before after (answers_text answers)
+  pub held_is : TellsRecords held last.records
+  pub keeper : KeeperAnswers answers faults faults'
+
+-- A front of the answers to some first lines was written.
+pub record RepliesInPart (script : List ℕ) (records : List Record) (faults faults' : ℕ) (before after : Option (List ℕ)) : Type 0 where
+  pub count : ℕ
+  pub answers : List Numbered
+  pub last : State
+  pub answered : Answered (begin records) 1 (take count (lines_of script)) answers last
+  pub size : ℕ
+  pub written : Appends before after (take size (answers_text answers))
+  pub keeper : KeeperAnswers answers faults faults'
+
+-- The source failed: the lines whose newline was taken were answered.
+pub record StopsReading (script : List ℕ) (left : Option (List ℕ)) (records : List Record) (held : Option (List (List ℕ))) (faults faults' : ℕ) (before after : Option (List ℕ)) : Type 0 where
+  pub taken : List ℕ
+  pub rest : List ℕ
+  pub parts : script ≡ taken ++ rest
+  pub left_is : left ≡ Some rest
+  pub replies : RepliesToFirst (ended_lines taken) script records held faults faults' before after
+
+-- The script and what is left of it; the records that were held and what is held; the keeper's faults, and what was written, before and after.
+abbrev pub Leaves : (script : List ℕ) (left : Option (List ℕ)) (records : List Record) (held : Option (List (List ℕ))) (faults faults' : ℕ) (before after : Option (List ℕ)) → Status → Type 0
+-- nothing is left, and every line was answered
+Leaves script left records held faults faults' before after status.Done =
+    IsWithin script × (left ≡ Some []) × RepliesToAll script records held faults faults' before after
+Leaves script left records held faults faults' before after status.ReadFault =
+    StopsReading script left records held faults faults' before after
+-- the lines before line n were answered
+Leaves script left records held faults faults' before after (status.LineTooLong n) =
+    IsFirstLong n (lines_of (take (script_limit + 1) script)) × RepliesToFirst (n - 1) script records held faults faults' before after
+-- the lines that end within the limit were answered
+Leaves script left records held faults faults' before after status.ScriptTooLarge =
+    IsTooLarge script × RepliesToFirst (ended_lines (take script_limit script)) script records held faults faults' before after
+Leaves script left records held faults faults' before after status.WriteFault = RepliesInPart script records faults faults' before after
+Leaves script left records held faults faults' before after status.NoMemory = RepliesInPart script records faults faults' before after
+-- nothing was written, and the same records are held
+Leaves script left records held faults faults' before after (status.Journal k) = (after ≡ before) × TellsRecords held records
+Leaves script left records held faults faults' before after status.KeeperFault = (after ≡ before) × TellsRecords held records
+Leaves script left records held faults faults' before after status.Words = ⊥
+
+-- a front of an output was written, and nothing else
+pub record WritesFront (script : List ℕ) (records : List Record) (before after : Option (List ℕ)) : Type 0 where
+  pub out : List ℕ
+  pub last : State
+  pub output : Output records script out last
+  pub front : List ℕ
+  pub rest : List ℕ
+  pub parts : out ≡ front ++ rest
+  pub written : Appends before after front
+
+-- where the keeper tells texts that are all of records
+abbrev pub OverRecords : Option (List (List ℕ)) → (List Record → Type 0) → Type 0
+OverRecords held P = IfSome held (λ texts. (records : List Record) → AreRecords texts records → P records)
+
+-- ---- completeness
+
+-- all texts that are held are records, and no more than may be held
+pub record AreHeld (texts : List (List ℕ)) : Type 0 where
+  pub records : List Record
+  pub are : AreRecords texts records
+  pub few : length records ≤ record_limit
+
+-- such a run is done, where memory suffices and neither source nor sink nor keeper fails
+abbrev pub IsComplete : (read_fault write_fault keeper_fault : Type 0) → Status → Type 0
+IsComplete read_fault write_fault keeper_fault status.Done = ⊤
+IsComplete read_fault write_fault keeper_fault status.NoMemory = ⊤
+IsComplete read_fault write_fault keeper_fault status.ReadFault = read_fault
+IsComplete read_fault write_fault keeper_fault status.WriteFault = write_fault
+IsComplete read_fault write_fault keeper_fault status.KeeperFault = keeper_fault
+IsComplete read_fault write_fault keeper_fault (status.Journal k) = ⊥
+IsComplete read_fault write_fault keeper_fault status.Words = ⊥
+IsComplete read_fault write_fault keeper_fault (status.LineTooLong n) = ⊥
+IsComplete read_fault write_fault keeper_fault status.ScriptTooLarge = ⊥
