@@ -101,10 +101,10 @@ fn the_first_fault_of_a_header_is_named(rt: HostRuntime) -> Result<(), Fail> {
             0x1a87_863a_82eb_6114_fcd9_ee36_0f06_798c,
             Some(CipherWhy::Alg),
         ),
-        // []
+        // [1]
         (
-            "W10",
-            0x2d74_a4d9_8422_5ae0_11f5_b49e_6e8a_c664,
+            "WzFd",
+            0x84c4_239d_b5c6_0196_1dc6_1088_0eaf_f077,
             Some(CipherWhy::Alg),
         ),
         // {"alg":"dir","enc":"A128GCM","n":1.5}
@@ -196,7 +196,7 @@ fn the_first_wrong_member_is_named(rt: HostRuntime) -> Result<(), Fail> {
         ("\"protected\":{}", JweMember::Protected),
         ("\"protected\":\"e30=\"", JweMember::Protected),
         ("\"protected\":\"e31\"", JweMember::Protected),
-        ("\"protected\":\"W10\"", JweMember::Protected),
+        ("\"protected\":\"WzFd\"", JweMember::Protected),
         ("\"protected\":\"e30\"", JweMember::Aad),
         ("\"protected\":\"e30\",\"aad\":1", JweMember::Aad),
         ("\"protected\":\"e30\",\"aad\":\"AB\"", JweMember::Aad),

@@ -1,5 +1,5 @@
-//! Which parts of a message are secret under a policy, which an intermediary may modify, and how two
-//! messages differ (TS 33.501 clause 13.2 in outline).
+//! Which parts of a message are secret under a policy, and which an intermediary may modify (TS 33.501
+//! clause 13.2 in outline).
 #![tactic(auto)]
 
 mod address;

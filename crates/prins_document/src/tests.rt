@@ -87,7 +87,7 @@ fn later_parts_are_named_in_order(rt: HostRuntime) -> Result<(), Fail> {
         ("AA", ",\"header\":1", WireMember::Jwe(JweMember::Header)),
         ("AA", "", WireMember::Block),
         ("ew", "", WireMember::Block),
-        ("W10", "", WireMember::Block),
+        ("WzFd", "", WireMember::Block),
         ("e30", "", WireMember::Block),
         ("eyJtZXRhRGF0YSI6MS41fQ", "", WireMember::Block),
         (BLOCK, "", WireMember::ModificationsBlock),
