@@ -1,13 +1,13 @@
 // What one record says.
-ghost use Rattle.std.specs.Prelude.{◌≡◌, length, option_map};
+ghost use Rattle.std.specs.Prelude.{◌≡◌, option_map};
 ghost use Rattle.spec_protocol.specs.Records as spec;
 ghost use Rattle.http_message.specs.Reading.{kind_view};
-ghost use Rattle.session_records.specs.View.{context_view, key_set_view, key_view, one_key_view, record_view, suite_view};
+ghost use Rattle.session_records.specs.View.{context_view, key_set_view, record_view, suite_view};
 
 use http_message::Kind;
-use jwe_flat::{ContentKey, Suite};
+use jwe_flat::Suite;
 use n32_values::{Hex64, Text};
-use session_records::{Context, KeySet, OneKey, Record};
+use session_records::{Context, KeySet, Record};
 
 // The node and the id that a record names.
 fn name_of(item: &Record) -> (&Text, Hex64)
@@ -65,50 +65,11 @@ pub(crate) fn opened_context(item: &Record) -> Option<&Context>
     }
 }
 
-fn key_length(key: &ContentKey) -> usize
-    ensures { result ≡ length (key_view key.now) }
-{
-    match key {
-        ContentKey::Aes128(key) => key.key().len(),
-        ContentKey::Aes256(key) => key.key().len(),
-    }
-}
-
-fn suite_key_length(suite: Suite) -> usize
-    ensures { result ≡ spec.key_length (suite_view suite) }
-{
-    match suite {
-        Suite::A128Gcm => 16,
-        Suite::A256Gcm => 32,
-    }
-}
-
-fn key_fits(suite: Suite, key: &OneKey) -> bool
-    ensures { result ≡ spec.key_fits (suite_view suite) (one_key_view key.now) }
-{
-    key_length(&key.key) == suite_key_length(suite)
-}
-
-fn keys_fit(suite: Suite, keys: &KeySet) -> bool
-    ensures { result ≡ spec.keys_fit (suite_view suite) (key_set_view keys.now) }
-{
-    key_fits(suite, &keys.send_request)
-        && key_fits(suite, &keys.send_response)
-        && key_fits(suite, &keys.receive_request)
-        && key_fits(suite, &keys.receive_response)
-}
-
 pub(crate) fn keyed_for(suite: Suite, item: &Record) -> Option<&KeySet>
     ensures { option_map (λ k. key_set_view k.now) result ≡ spec.keyed_for (suite_view suite) (record_view item.now) }
 {
     match item {
-        Record::Keyed { keys, .. } => {
-            if keys_fit(suite, keys) {
-                Some(keys)
-            } else {
-                None
-            }
-        }
+        Record::Keyed { keys, .. } => { if keys.fits(suite) { Some(keys) } else { None } }
         _ => None,
     }
 }

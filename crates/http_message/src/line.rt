@@ -5,14 +5,14 @@ ghost use Rattle.n32_values.specs.View.{tree_of};
 ghost use Rattle.spec_messages.specs.Message as spec;
 ghost use Rattle.spec_documents.specs.Text as texts;
 ghost use Rattle.http_message.specs.Forms.{parts_of};
-ghost use Rattle.http_message.specs.Reading.{Gives, part_view, pair_view, line_view, head_view};
+ghost use Rattle.http_message.specs.Reading.{Gives, part_view, pair_view, line_view, head_view, header_view, message_view};
 
 use crate::form::{Form, read_segment, read_value};
-use crate::message::{Pair, PairList, PartList};
+use crate::message::{HeaderList, Message, Pair, PairList, PartList, Request, Response};
 use crate::protocol::{is_method, read_status_text};
 use crate::refusal::{MessageMember, MessageRead, wanted};
 use doc_forms::{Grammar, cut, is_query_name};
-use n32_values::{Node, NodeMap, Text};
+use n32_values::{Doc, Node, NodeMap, Text};
 use std::alloc::Global;
 
 /// What the line of a request has.
@@ -39,6 +39,42 @@ pub enum Head {
     Request(Line),
     /// The status code of a response, from 100 to 999.
     Response(u16),
+}
+
+impl Head {
+    /// The message with this line, these headers and this body.
+    pub fn into_message(self, headers: HeaderList, body: Option<Doc>) -> Message
+        ensures head { (message_view result).head ≡ head_view self }
+        ensures headers { (message_view result).headers ≡ list_map header_view headers }
+        ensures body { (message_view result).body ≡ body }
+    {
+        match self {
+            Head::Request(
+                Line {
+                    method,
+                    scheme,
+                    authority,
+                    version,
+                    segments,
+                    query,
+                },
+            ) => Message::Request(Request {
+                method,
+                scheme,
+                authority,
+                version,
+                segments,
+                query,
+                headers,
+                body,
+            }),
+            Head::Response(status) => Message::Response(Response {
+                status,
+                headers,
+                body,
+            }),
+        }
+    }
 }
 
 fn read_pair(alloc: Global, form: Form, text: &str) -> Result<Pair, MessageRead>

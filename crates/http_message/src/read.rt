@@ -7,8 +7,8 @@ ghost use Rattle.http_message.specs.Stage as stage;
 
 use crate::form::Form;
 use crate::headers::read_headers;
-use crate::line::{Head, Line, read_head};
-use crate::message::{Message, Request, Response};
+use crate::line::read_head;
+use crate::message::Message;
 use crate::refusal::{MessageMember, MessageRead};
 use crate::stage::is_built;
 use n32_values::{Doc, Node, copy_doc, depth};
@@ -40,32 +40,7 @@ fn read_parts(alloc: Global, node: &Node) -> Result<Message, MessageRead>
     let head = read_head(alloc, Form::Plain, map)?;
     let headers = read_headers(alloc, Form::Plain, map.get("headers"))?;
     let body = read_body(alloc, map.get("body"))?;
-    match head {
-        Head::Request(
-            Line {
-                method,
-                scheme,
-                authority,
-                version,
-                segments,
-                query,
-            },
-        ) => Ok(Message::Request(Request {
-            method,
-            scheme,
-            authority,
-            version,
-            segments,
-            query,
-            headers,
-            body,
-        })),
-        Head::Response(status) => Ok(Message::Response(Response {
-            status,
-            headers,
-            body,
-        })),
-    }
+    Ok(head.into_message(headers, body))
 }
 
 /// Reads the message that a document is of: `{"requestLine":{..},"headers":[..],"body":..}` or

@@ -11,9 +11,7 @@ ghost use Rattle.message_rebuilding.specs.Reading.{Gives, Reads, read_as};
 use crate::body::read_body;
 use crate::items::{Misread, read_items};
 use crate::laws::blocks_are_read;
-use http_message::{
-    Form, Head, HeaderList, Line, Message, MessageRead, Request, Response, read_head, read_headers,
-};
+use http_message::{Form, Head, HeaderList, Message, MessageRead, read_head, read_headers};
 use n32_values::{NoMemory, Node, NodeMap};
 use reformat_blocks::Block;
 use std::alloc::Global;
@@ -48,32 +46,7 @@ fn read_clear(alloc: Global, node: &Node) -> Result<Message, Misread>
     let headers = headers_in(alloc, map.get("headers"))?;
     let items = read_items(alloc, map.get("payload"))?;
     let body = read_body(alloc, items)?;
-    match head {
-        Head::Request(
-            Line {
-                method,
-                scheme,
-                authority,
-                version,
-                segments,
-                query,
-            },
-        ) => Ok(Message::Request(Request {
-            method,
-            scheme,
-            authority,
-            version,
-            segments,
-            query,
-            headers,
-            body,
-        })),
-        Head::Response(status) => Ok(Message::Response(Response {
-            status,
-            headers,
-            body,
-        })),
-    }
+    Ok(head.into_message(headers, body))
 }
 
 /// The message with holes that a block stands for: its line, its headers, and the least body that has

@@ -1,10 +1,10 @@
 // Contexts and keys that are handed in.
-ghost use Rattle.std.specs.Prelude.{◌≡◌, ◌≤◌, length, true, IsErrOf, IsTrue};
+ghost use Rattle.std.specs.Prelude.{◌≡◌, ◌≤◌, true, IsErrOf, IsTrue};
 ghost use Rattle.n32_outside.specs.Causes.{Rose};
 ghost use Rattle.spec_documents.specs.Text.{is_node_name};
 ghost use Rattle.spec_protocol.specs.Records as records;
 ghost use Rattle.spec_protocol.specs.RecordDocument.{is_well_named};
-ghost use Rattle.session_records.specs.View.{context_view, key_set_view, key_view, one_key_view, record_view, suite_view};
+ghost use Rattle.session_records.specs.View.{context_view, key_set_view, record_view};
 ghost use Rattle.script_events.specs.View.{handed_view};
 ghost use Rattle.spec_script.specs.Events.{AddContext, AddKeys};
 ghost use Rattle.spec_script.specs.Steps as spec;
@@ -18,47 +18,13 @@ use crate::sites::is_known;
 use crate::unanswered::{Unanswered, unread, unrecorded};
 use crate::world::World;
 use context_store::Store;
-use jwe_flat::{ContentKey, Suite};
 use n32_outside::Keeper;
 use n32_values::{Bytes, Hex64, Text};
 use policy_documents::{PolicyRead, read_policy};
 use script_answers::{Refusal, done_text};
 use script_events::HandedContext;
-use session_records::{Context, KeySet, OneKey, Record};
+use session_records::{Context, KeySet, Record};
 use std::alloc::Global;
-
-fn suite_key_length(suite: Suite) -> usize
-    ensures { result ≡ records.key_length (suite_view suite) }
-{
-    match suite {
-        Suite::A128Gcm => 16,
-        Suite::A256Gcm => 32,
-    }
-}
-
-fn key_length(key: &ContentKey) -> usize
-    ensures { result ≡ length (key_view key.now) }
-{
-    match key {
-        ContentKey::Aes128(key) => key.key().len(),
-        ContentKey::Aes256(key) => key.key().len(),
-    }
-}
-
-fn key_fits(suite: Suite, key: &OneKey) -> bool
-    ensures { result ≡ records.key_fits (suite_view suite) (one_key_view key.now) }
-{
-    key_length(&key.key) == suite_key_length(suite)
-}
-
-fn keys_fit(suite: Suite, keys: &KeySet) -> bool
-    ensures { result ≡ records.keys_fit (suite_view suite) (key_set_view keys.now) }
-{
-    key_fits(suite, &keys.send_request)
-        && key_fits(suite, &keys.send_response)
-        && key_fits(suite, &keys.receive_request)
-        && key_fits(suite, &keys.receive_response)
-}
 
 // The context that is handed in, with the policy that its document is of.
 #[tactic(auto, unfolding(spec_exchange::specs::Chain::chains))]
@@ -190,7 +156,7 @@ fn check_keys(store: &Store, node: &Text, id: Hex64, keys: &KeySet) -> Result<()
     if store.keys(node, id).is_some() {
         return Err(Unanswered::Refused(Refusal::KeysTwice));
     }
-    if !keys_fit(context.suite, keys) {
+    if !keys.fits(context.suite) {
         return Err(Unanswered::Refused(Refusal::Event("key")));
     }
     Ok(())

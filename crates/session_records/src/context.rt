@@ -1,4 +1,8 @@
 // Contexts and their keys.
+ghost use Rattle.std.specs.Prelude.{◌≡◌, length};
+ghost use Rattle.spec_protocol.specs.Records as spec;
+ghost use Rattle.session_records.specs.View.{key_set_view, key_view, one_key_view, suite_view};
+
 use jwe_flat::{ContentKey, Suite};
 use n32_values::{Hex64, PlmnId, Text, TextList};
 use policy_documents::Policy;
@@ -48,4 +52,43 @@ pub struct KeySet {
     pub receive_response: OneKey,
     /// The first sequence number of each kind.
     pub first: u32,
+}
+
+fn key_length(key: &ContentKey) -> usize
+    ensures { result ≡ length (key_view key.now) }
+{
+    match key {
+        ContentKey::Aes128(key) => key.key().len(),
+        ContentKey::Aes256(key) => key.key().len(),
+    }
+}
+
+fn suite_key_length(suite: Suite) -> usize
+    ensures { result ≡ spec.key_length (suite_view suite) }
+{
+    match suite {
+        Suite::A128Gcm => 16,
+        Suite::A256Gcm => 32,
+    }
+}
+
+impl OneKey {
+    /// Whether the key has the length of the suite's keys.
+    pub fn fits(&self, suite: Suite) -> bool
+        ensures { result ≡ spec.key_fits (suite_view suite) (one_key_view self.now) }
+    {
+        key_length(&self.key) == suite_key_length(suite)
+    }
+}
+
+impl KeySet {
+    /// Whether each key has the length of the suite's keys.
+    pub fn fits(&self, suite: Suite) -> bool
+        ensures { result ≡ spec.keys_fit (suite_view suite) (key_set_view self.now) }
+    {
+        self.send_request.fits(suite)
+            && self.send_response.fits(suite)
+            && self.receive_request.fits(suite)
+            && self.receive_response.fits(suite)
+    }
 }
