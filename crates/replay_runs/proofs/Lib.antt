@@ -1,5 +1,4 @@
 pub mod BlockLemmas
-pub mod Read
 pub mod Plain
 pub mod Rooms
 pub mod Went

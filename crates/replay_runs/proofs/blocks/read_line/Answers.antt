@@ -1,6 +1,6 @@
 use Rattle.std.proofs.Common.{◌≡◌, Err}
 use Rattle.n32_values.specs.declared.read.DocFault.TheVariants.{Syntax, Number}
-use Rattle.replay_runs.proofs.Read.{tree_read, syntax_read, number_read}
+use Rattle.replay_world.proofs.Read.{tree_read, syntax_read, number_read}
 use Rattle.replay_runs.proofs.blocks.read_line.Goals as goal
 
 pub returns-in-Ok : goal.returns-in-Ok
