@@ -4,6 +4,10 @@
 //! answers the events of a script, over records in memory or in the journal FILE.
 #![tactic(auto)]
 
+ghost use Rattle.std.specs.Prelude.{◌≡◌, ◌⊎◌, ◌↔◌, None, IfErr};
+ghost use Rattle.n32_outside.specs.Causes.{Rose};
+ghost use Rattle.replay_runs.specs.Commands.{command_of};
+
 use n32_outside::{FailList, FileKeeper, Keeper, MemKeeper, StdSink, StdSource};
 use n32_values::{Text, TextList};
 use replay_runs::{Status, journal_file, run};
@@ -11,8 +15,10 @@ use std::env;
 use std::io::{self, ErrorKind};
 use std::process::ExitCode;
 
-// The program's arguments without its own name.
-fn read_words(rt: &HostRuntime) -> Result<TextList, Status> {
+// The program's arguments without its own name. Those that are no UTF-8 are a faulty command line.
+fn read_words(rt: &HostRuntime) -> Result<TextList, Status>
+    ensures { IfErr result (λ status. (status ≡ Status.Words) ⊎ (status ≡ Status.NoMemory)) }
+{
     let args = match env::args(rt) {
         Ok(args) => args,
         Err(error) if error.kind() == ErrorKind::OutOfMemory => return Err(Status::NoMemory),
@@ -27,14 +33,20 @@ fn read_words(rt: &HostRuntime) -> Result<TextList, Status> {
     Ok(words)
 }
 
-fn run_over<K: Keeper>(rt: &HostRuntime, words: &TextList, keeper: &mut K) -> Status {
+fn run_over<K: Keeper>(rt: &HostRuntime, words: &TextList, keeper: &mut K) -> Status
+    ensures words { (result ≡ Status.Words) ↔ (command_of words.now ≡ None) }
+    ensures unkept { command_of words.now ≡ None → keeper.new ≡ keeper.old }
+    ensures keeper_fault { result ≡ Status.KeeperFault → Rose (K.faults keeper.old) (K.faults keeper.new) }
+{
     let mut source = StdSource::new(rt.reader());
     let mut sink = StdSink::new(io::writer(rt));
     run(rt.alloc(), words, &mut source, &mut sink, keeper)
 }
 
 // The records are kept in the file that the words name, or in memory.
-fn run_over_records(rt: &HostRuntime, words: &TextList) -> Status {
+fn run_over_records(rt: &HostRuntime, words: &TextList) -> Status
+    ensures words { (result ≡ Status.Words) ↔ (command_of words.now ≡ None) }
+{
     let Some(file) = journal_file(words) else {
         let mut keeper = MemKeeper::new(rt.alloc(), FailList::new(rt.alloc()));
         return run_over(rt, words, &mut keeper);

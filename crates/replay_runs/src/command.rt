@@ -1,4 +1,4 @@
-ghost use Rattle.std.specs.Prelude.{◌≡◌};
+ghost use Rattle.std.specs.Prelude.{◌≡◌, Some, IfSome};
 ghost use Rattle.std.specs.Option.{option_map};
 ghost use Rattle.replay_runs.specs.Commands.{command_of, journal_of};
 
@@ -27,9 +27,10 @@ pub fn read_command(words: &TextList) -> Option<Command>
     }
 }
 
-/// The file that the words name for the records, if they name one.
+/// The file that the words name for the records, if they name one. Only those of `replay` do.
 pub fn journal_file(words: &TextList) -> Option<&Text>
-    ensures { option_map (λ t. t.now) result ≡ journal_of words.now }
+    ensures file { option_map (λ t. t.now) result ≡ journal_of words.now }
+    ensures replays { IfSome result (λ t. command_of words.now ≡ Some Command.Replay) }
 {
     match words.as_slice() {
         [word, file] if word.as_str() == "replay" && !file.as_str().is_empty() => Some(file),
