@@ -29,8 +29,7 @@ passes test (words w) s e = tested (test w) refl e
 passes test (items ts) s e = cc
 passes test (members ms) s e = cc
 
--- a text that is read under a test passes it
-pub passes_in : (test : List ℕ → Bool) (o : Option Tree) (s : List ℕ) → text_in test o ≡ Some s → test s ≡ true
+passes_in : (test : List ℕ → Bool) (o : Option Tree) (s : List ℕ) → text_in test o ≡ Some s → test s ≡ true
 passes_in test None s e = cc
 passes_in test (Some t) s e = passes test t s e
 
@@ -59,8 +58,7 @@ identities_named ts ss e = tested (nat_le (length ts) 1) refl e
     tested true f e = let h = all_pass is_identity ts ss e in rw (h.count, f) h.all
     tested false f e = cc
 
--- intermediaries that are read are in their grammar
-pub ipx_named : (o : Option Tree) (ss : List (List ℕ)) → ipx_in o ≡ Some ss → are_ipx ss ≡ true
+ipx_named : (o : Option Tree) (ss : List (List ℕ)) → ipx_in o ≡ Some ss → are_ipx ss ≡ true
 ipx_named o ss e = step (listed o) e
   where
     step : (l : Option (List Tree)) → option_and_then identities l ≡ Some ss → are_ipx ss ≡ true
