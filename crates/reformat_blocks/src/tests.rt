@@ -5,9 +5,9 @@ ghost use Rattle.http_message.specs.Reading.{message_view};
 use crate::{
     BlockRead, BlockWhy, LimitName, Meta, Split, SplitFault, block_doc, is_meta, read_block, split,
 };
-use http_message::{Message, is_whole, read_message};
+use http_message::{HeaderList, Message, Response, is_whole, read_message};
 use n32_values::{Doc, NoMemory, Node, Text, depth, doc_text, read_doc};
-use policy_tables::read_policy;
+use policy_tables::{Policy, read_policy};
 use std::alloc::Global;
 use std::process::Abort;
 use std::test::Fail;
@@ -16,6 +16,9 @@ const EMPTY: &str = "{\"apiIeMappingList\":[],\"dataTypeEncPolicy\":[]}";
 
 const POL: &str =
     "{\"apiIeMappingList\":[{\"apiSignature\":\"/nudm-sdm/v2/{supi}/nssai\",\"apiMethod\":\"GET\",\"IeList\":[{\"ieLoc\":\"URI_PARAM\",\"ieType\":\"UEID\",\"reqIe\":\"supi\"}]},{\"apiSignature\":\"/nausf-auth/v1/ue-authentications\",\"apiMethod\":\"POST\",\"IeList\":[{\"ieLoc\":\"BODY\",\"ieType\":\"UEID\",\"reqIe\":\"/supiOrSuci\"},{\"ieLoc\":\"URI_PARAM\",\"ieType\":\"UEID\",\"reqIe\":\"id\"},{\"ieLoc\":\"HEADER\",\"ieType\":\"UEID\",\"reqIe\":\"x-id\"},{\"ieLoc\":\"BODY\",\"ieType\":\"AUTHENTICATION_MATERIAL\",\"reqIe\":\"/resynchronizationInfo/rand\"},{\"ieLoc\":\"BODY\",\"ieType\":\"AUTHENTICATION_MATERIAL\",\"reqIe\":\"/resynchronizationInfo/auts\"}]}],\"dataTypeEncPolicy\":[\"UEID\",\"AUTHENTICATION_MATERIAL\"]}";
+
+const RESPONSES: &str =
+    "{\"apiIeMappingList\":[{\"apiSignature\":\"/\",\"apiMethod\":\"GET\",\"IeList\":[{\"ieLoc\":\"BODY\",\"ieType\":\"KEY_MATERIAL\",\"reqIe\":\"/a\",\"rspIe\":\"/kseaf\"}]}],\"dataTypeEncPolicy\":[\"KEY_MATERIAL\"]}";
 
 const LINE: &str =
     "\"requestLine\":{\"authority\":\"a\",\"method\":\"GET\",\"path\":\"/\",\"protocolVersion\":\"1\",\"scheme\":\"http\"}";
@@ -49,7 +52,54 @@ fn is_shallow(message: &Message) -> bool
     }
 }
 
+fn request(alloc: Global, text: &str) -> Result<Message, Fail> {
+    let doc = read_doc(alloc, text.as_bytes())?;
+    Ok(read_message(alloc, doc.node())?)
+}
+
+fn response(alloc: Global, body: &str) -> Result<Message, Fail> {
+    let body = read_doc(alloc, body.as_bytes())?;
+    Ok(Message::Response(Response {
+        status: 201,
+        headers: HeaderList::new(alloc),
+        body: Some(body),
+    }))
+}
+
+fn policy_of(alloc: Global, text: &str) -> Result<Policy, Fail> {
+    let doc = read_doc(alloc, text.as_bytes())?;
+    match read_policy(alloc, doc.node()) {
+        Ok(policy) => Ok(policy),
+        Err(_) => Err("policy".into()),
+    }
+}
+
+fn split_under(
+    rt: &impl Abort,
+    alloc: Global,
+    policy: &Policy,
+    mapping: Option<u32>,
+    message: &Message,
+) -> Result<Result<Split, SplitFault>, Fail> {
+    let meta = meta_of(alloc)?;
+    assert!(rt; is_whole(message) && is_shallow(message) && is_meta(&meta));
+    Ok(split(alloc, policy, mapping, message, meta))
+}
+
 // The block and the values of a message, or the limit that it passes.
+fn split_message(
+    rt: &impl Abort,
+    alloc: Global,
+    policy: &str,
+    mapping: Option<u32>,
+    message: &Message,
+) -> Result<Result<Split, SplitFault>, Fail> {
+    let policy = policy_of(alloc, policy)?;
+    split_under(rt, alloc, &policy, mapping, message)
+}
+
+// The same of the request of a text. A message is dropped by a call of `drop`: the proof is slow where one
+// is dropped at the end of a scope.
 fn split_of(
     rt: &impl Abort,
     alloc: Global,
@@ -57,13 +107,24 @@ fn split_of(
     mapping: Option<u32>,
     text: &str,
 ) -> Result<Result<Split, SplitFault>, Fail> {
-    let doc = read_doc(alloc, policy.as_bytes())?;
-    let policy = read_policy(alloc, doc.node()).ok().ok_or("policy")?;
-    let doc = read_doc(alloc, text.as_bytes())?;
-    let message = read_message(alloc, doc.node())?;
-    let meta = meta_of(alloc)?;
-    assert!(rt; is_whole(&message) && is_shallow(&message) && is_meta(&meta));
-    Ok(split(alloc, &policy, mapping, &message, meta))
+    let message = request(alloc, text)?;
+    let split = split_message(rt, alloc, policy, mapping, &message);
+    drop(message);
+    split
+}
+
+// The same of a response with this body.
+fn split_response(
+    rt: &impl Abort,
+    alloc: Global,
+    policy: &str,
+    mapping: Option<u32>,
+    body: &str,
+) -> Result<Result<Split, SplitFault>, Fail> {
+    let message = response(alloc, body)?;
+    let split = split_message(rt, alloc, policy, mapping, &message);
+    drop(message);
+    split
 }
 
 // The texts of the block and of the values.
@@ -156,6 +217,21 @@ fn what_the_policy_calls_sensitive_is_hidden(rt: HostRuntime) -> Result<(), Fail
     Ok(())
 }
 
+#[test]
+fn a_member_of_a_response_is_hidden(rt: HostRuntime) -> Result<(), Fail> {
+    let alloc = rt.alloc();
+    let body = "{\"a\":1,\"kseaf\":\"00ff\"}";
+    let split = split_response(&rt, alloc, RESPONSES, Some(0), body)?
+        .ok()
+        .ok_or("limit")?;
+    let wanted =
+        "{META,\"payload\":[{\"iePath\":\"/a\",\"ieValueLocation\":\"BODY\",\"value\":1},{\"iePath\":\"/kseaf\",\"ieValueLocation\":\"BODY\",\"value\":{\"encBlockIndex\":0}}],\"statusLine\":\"201\"} [\"00ff\"]";
+    let texts = texts_of(alloc, split)?;
+    let wanted = wanted.replace(alloc, "META", META)?;
+    assert_eq!(rt; texts.as_str(), wanted.as_str());
+    Ok(())
+}
+
 fn request_with(alloc: Global, headers: usize, items: usize, holes: usize) -> Result<String, Fail> {
     let mut text = String::from_str(alloc, "{\"headers\":[")?;
     for i in 0..headers {
@@ -198,6 +274,35 @@ fn the_first_limit_that_is_passed_is_named(rt: HostRuntime) -> Result<(), Fail> 
             "at {items} {holes}"
         );
     }
+    Ok(())
+}
+
+fn block_length(alloc: Global, split: &Split) -> Result<usize, Fail> {
+    let text = doc_text(alloc, split.block.doc().node())?;
+    Ok(text.as_slice().len())
+}
+
+// The length of the block of a response whose body is a text of so many letters, or the limit.
+fn length_with(
+    rt: &impl Abort,
+    alloc: Global,
+    letters: usize,
+) -> Result<Result<usize, SplitFault>, Fail> {
+    let text = "a".repeat(alloc, letters)?;
+    let body = format!(in alloc; "\"{text}\"")?;
+    match split_response(rt, alloc, EMPTY, None, body.as_str())? {
+        Ok(split) => Ok(Ok(block_length(alloc, &split)?)),
+        Err(fault) => Ok(Err(fault)),
+    }
+}
+
+#[test]
+fn the_text_of_a_block_has_at_most_4194304_bytes(rt: HostRuntime) -> Result<(), Fail> {
+    // Without a letter it has 187 bytes.
+    let fits = length_with(&rt, rt.alloc(), 4_194_304 - 187)?;
+    assert!(rt; fits == Ok(4_194_304));
+    let over = length_with(&rt, rt.alloc(), 4_194_305 - 187)?;
+    assert!(rt; over == Err(SplitFault::Limit(LimitName::Block)));
     Ok(())
 }
 
