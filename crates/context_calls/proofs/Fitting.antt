@@ -1,7 +1,7 @@
 -- The keys of an open context fit its suite.
 use Rattle.std.proofs.Common.{◌≡◌, ℕ, Bool, true, false, List, [], ◌∷◌, Option, Some, None, refl, cond, subst, ◌∙◌}
 use Rattle.std.specs.Option.{option_or}
-use Rattle.spec_protocol.specs.Records.{Suite, KeySet, Context, Record, Offered, Opened, Keyed, Sent, Delivered, Closed, keys_fit, keyed_for, keys_behind, opened_context, first_of, opening, open_context, closed, own, keys}
+use Rattle.spec_records.specs.Records.{Suite, KeySet, Context, Record, Offered, Opened, Keyed, Sent, Delivered, Closed, keys_fit, keyed_for, keys_behind, opened_context, first_of, opening, open_context, closed, own, keys}
 
 keyed-fits : (s : Suite) (r : Record) (k : KeySet) → keyed_for s r ≡ Some k → keys_fit s k ≡ true
 keyed-fits s (Offered n i) k e = cc

@@ -1,8 +1,8 @@
 -- What a call on a store and its keeper comes to: the answer, and what is held after it (this project's own).
 use Rattle.std.specs.Prelude.{◌≡◌, ℕ, ◌≤◌, List, length, Bool, true, false, nat_le, Option, Some, None, Result, Ok, Err, IfSome}
-use Rattle.spec_protocol.specs.Records.{Record, record_limit}
+use Rattle.spec_records.specs.Records.{Record, record_limit}
 use Rattle.n32_outside.specs.Contents.{Stays, Gains}
-use Rattle.session_records.specs.Reading.{ReadsRecord, written}
+use Rattle.context_records.specs.Reading.{ReadsRecord, written}
 use Rattle.context_store.specs.Stores.{Stored, Holds, IsFirstBad}
 use Rattle.spec_exchange.specs.Chain.{◌>>=◌, unless}
 use Rattle.spec_exchange.specs.Refusals.{Refusal, Journal, Keeper, Beyond, many_records}

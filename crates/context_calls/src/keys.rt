@@ -1,15 +1,15 @@
 // The keys and nonces of a context.
 ghost use Rattle.std.specs.Prelude.{◌≡◌, ℕ, List, Some, IsTrue};
-ghost use Rattle.spec_protocol.specs.Records.{KeySet as Keys, Context, Record, key_fits, keys_fit, keys, open_context};
+ghost use Rattle.spec_records.specs.Records.{KeySet as Keys, Context, Record, key_fits, keys_fit, keys, open_context};
 ghost use Rattle.http_message.specs.Reading.{kind_view};
-ghost use Rattle.session_records.specs.View.{key_set_view, one_key_view, suite_view};
+ghost use Rattle.context_records.specs.View.{key_set_view, one_key_view, suite_view};
 ghost use Rattle.spec_exchange.specs.Calls as calls;
 ghost use Rattle.spec_exchange.specs.FirstFailed as exchange;
 ghost use Rattle.spec_exchange.specs.Jwe.{content_key, nonce};
 
 use http_message::Kind;
 use jwe_flat::{ContentKey, Suite};
-use session_records::{KeySet, OneKey};
+use context_records::{KeySet, OneKey};
 
 /// The keys of an open context fit its suite.
 pub fn keys_fit_suite()

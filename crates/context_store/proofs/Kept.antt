@@ -2,8 +2,8 @@
 use Rattle.std.proofs.Common.{◌≡◌, ◌⊎◌, ℕ, zero, suc, ◌+◌, ◌<◌, ◌≤◌, ⊎_elim, length, List, [], ◌∷◌, ◌++◌, take, slice_get, Option, Some, None, IfSome, Ok, sym, ◌∙◌, subst, arith, inl, inr}
 use Rattle.n32_values.proofs.Trees.{take_at}
 use Rattle.n32_outside.specs.Contents.{Stays, Gains, Loads}
-use Rattle.spec_protocol.specs.Records.{Record, record_limit}
-use Rattle.session_records.specs.Reading.{ReadsRecord}
+use Rattle.spec_records.specs.Records.{Record, record_limit}
+use Rattle.context_records.specs.Reading.{ReadsRecord}
 use Rattle.context_store.specs.Stores.{AreRecords, Holds, HasNoBad, IsNoRecord, IsFirstBad, NamesBad, RefusesText}
 use Rattle.context_store.specs.declared.faults.OpenFault.{OpenFault}
 use Rattle.context_store.specs.declared.faults.OpenFault.TheVariants.{Journal, Keeper, NoMemory}

@@ -12,8 +12,8 @@ use Rattle.spec_documents.specs.Text.{is_identity, is_node_name}
 use Rattle.spec_messages.specs.Message.{Kind, wanted, any_text, text_if, text_in, text_at, onto_read, all_read}
 use Rattle.spec_messages.specs.Policy.{Policy}
 use Rattle.spec_messages.specs.PolicyDocument.{chosen, listed}
-use Rattle.spec_protocol.specs.Records.{Suite, OneKey, Context, Record, Offered, Opened, Keyed, Sent, Delivered, Closed, node_of, context_of, is_of, opened_context, first_of, own, opening, open_context, closed}
-use Rattle.spec_protocol.specs.RecordDocument.{NoRecord, no_record, suite_of, kind_named, number_in, mapping_in, policy_in, identities, ipx_in, key_pair_in, if_counted, record_named, record_of, are_ipx, is_well_named}
+use Rattle.spec_records.specs.Records.{Suite, OneKey, Context, Record, Offered, Opened, Keyed, Sent, Delivered, Closed, node_of, context_of, is_of, opened_context, first_of, own, opening, open_context, closed}
+use Rattle.spec_records.specs.RecordDocument.{NoRecord, no_record, suite_of, kind_named, number_in, mapping_in, policy_in, identities, ipx_in, key_pair_in, if_counted, record_named, record_of, are_ipx, is_well_named}
 
 -- ---- texts of a grammar
 

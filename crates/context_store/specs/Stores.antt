@@ -1,9 +1,9 @@
 -- A store of records, and the keeper below it.
 use Rattle.std.specs.Prelude.{◌≡◌, ◌⊎◌, ◌≤◌, ⊤, ℕ, Bool, true, List, [], ◌∷◌, take, slice_get, Option, Some, IfSome, IsTrue}
 use Rattle.std.specs.List.{list_all}
-use Rattle.spec_protocol.specs.Records.{Record, record_limit}
-use Rattle.spec_protocol.specs.RecordDocument.{is_well_named}
-use Rattle.session_records.specs.Reading.{ReadsRecord}
+use Rattle.spec_records.specs.Records.{Record, record_limit}
+use Rattle.spec_records.specs.RecordDocument.{is_well_named}
+use Rattle.context_records.specs.Reading.{ReadsRecord}
 use Rattle.context_store.specs.declared.faults.OpenFault.{OpenFault}
 use Rattle.context_store.specs.declared.faults.OpenFault.TheVariants.{Journal, Keeper, NoMemory}
 

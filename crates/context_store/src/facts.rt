@@ -1,13 +1,13 @@
 // What one record says.
 ghost use Rattle.std.specs.Prelude.{◌≡◌, option_map};
-ghost use Rattle.spec_protocol.specs.Records as spec;
+ghost use Rattle.spec_records.specs.Records as spec;
 ghost use Rattle.http_message.specs.Reading.{kind_view};
-ghost use Rattle.session_records.specs.View.{context_view, key_set_view, record_view, suite_view};
+ghost use Rattle.context_records.specs.View.{context_view, key_set_view, record_view, suite_view};
 
 use http_message::Kind;
 use jwe_flat::Suite;
 use n32_values::{Hex64, Text};
-use session_records::{Context, KeySet, Record};
+use context_records::{Context, KeySet, Record};
 
 // The node and the id that a record names.
 fn name_of(item: &Record) -> (&Text, Hex64)

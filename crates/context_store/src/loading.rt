@@ -2,16 +2,16 @@
 ghost use Rattle.std.specs.Prelude.{◌≡◌, ◌<◌, ◌≤◌, [], ◌∷◌, ◌++◌, map, length, IfOk, OnOk, IfErr, IsErrOf, IsTrue};
 ghost use Rattle.n32_outside.specs.Causes.{Rose};
 ghost use Rattle.n32_outside.specs.Contents.{Stays};
-ghost use Rattle.spec_protocol.specs.Records.{record_limit};
-ghost use Rattle.spec_protocol.specs.RecordDocument.{is_well_named};
-ghost use Rattle.session_records.specs.View.{record_view};
-ghost use Rattle.session_records.specs.Reading.{ReadsRecord};
+ghost use Rattle.spec_records.specs.Records.{record_limit};
+ghost use Rattle.spec_records.specs.RecordDocument.{is_well_named};
+ghost use Rattle.context_records.specs.View.{record_view};
+ghost use Rattle.context_records.specs.Reading.{ReadsRecord};
 ghost use Rattle.context_store.specs.Stores.{AreNamed, Holds, NamesBad, RefusesText};
 
 use crate::faults::OpenFault;
 use crate::store::RECORD_LIMIT;
 use n32_outside::{Keeper, OutFault};
-use session_records::{Record, RecordRead, read_record};
+use context_records::{Record, RecordRead, read_record};
 use std::alloc::Global;
 
 // The record of the held text of this number.

@@ -1,8 +1,8 @@
 // The questions on a list of records, the oldest first. Each goes over the whole list.
 ghost use Rattle.std.specs.Prelude.{◌≡◌, ◌≤◌, map, length, option_map, Option};
-ghost use Rattle.spec_protocol.specs.Records as spec;
+ghost use Rattle.spec_records.specs.Records as spec;
 ghost use Rattle.http_message.specs.Reading.{kind_view};
-ghost use Rattle.session_records.specs.View.{context_view, key_set_view, record_view};
+ghost use Rattle.context_records.specs.View.{context_view, key_set_view, record_view};
 
 use crate::facts::{
     is_closed, is_delivery, is_of, is_reply_to, keyed_for, opened_context, request_delivered,
@@ -10,7 +10,7 @@ use crate::facts::{
 };
 use http_message::Kind;
 use n32_values::{Hex64, Text};
-use session_records::{Context, KeySet, Record};
+use context_records::{Context, KeySet, Record};
 
 pub(crate) fn used(records: &[Record], node: &Text, id: Hex64) -> bool
     ensures { result ≡ spec.used node.now id.value (map record_view records.now) }

@@ -2,12 +2,12 @@
 ghost use Rattle.std.specs.Prelude.{◌≡◌, ◌<◌, ◌≤◌, ◌⊎◌, [], ◌∷◌, ◌++◌, true, false, map, length, option_map, Option, Ok, IfSome, IfOk, OnOk, OnErr, IfErr, IsErrOf, IsTrue};
 ghost use Rattle.n32_outside.specs.Causes.{Rose};
 ghost use Rattle.n32_outside.specs.Contents.{Stays, Gains};
-ghost use Rattle.spec_protocol.specs.Records as spec;
+ghost use Rattle.spec_records.specs.Records as spec;
 ghost use Rattle.spec_documents.specs.Text.{is_node_name};
-ghost use Rattle.spec_protocol.specs.RecordDocument.{are_ipx, is_well_named};
+ghost use Rattle.spec_records.specs.RecordDocument.{are_ipx, is_well_named};
 ghost use Rattle.http_message.specs.Reading.{kind_view};
-ghost use Rattle.session_records.specs.View.{context_view, key_set_view, record_view};
-ghost use Rattle.session_records.specs.Reading.{ReadsRecord, written};
+ghost use Rattle.context_records.specs.View.{context_view, key_set_view, record_view};
+ghost use Rattle.context_records.specs.Reading.{ReadsRecord, written};
 ghost use Rattle.context_store.specs.Stores.{HasNoBad, IsConsistent, NamesBad};
 
 use crate::faults::{AddFault, OpenFault};
@@ -16,7 +16,7 @@ use crate::questions;
 use http_message::Kind;
 use n32_outside::{Keeper, OutFault};
 use n32_values::{Hex64, Text};
-use session_records::{Context, KeySet, Record, record_text};
+use context_records::{Context, KeySet, Record, record_text};
 use std::alloc::Global;
 use std::marker::Model;
 
@@ -35,8 +35,8 @@ pub struct Store {
 
 impl Model for Store {
     ghost use Rattle.std.specs.Prelude.{◌≤◌, length, map};
-    ghost use Rattle.spec_protocol.specs.Records.{record_limit};
-    ghost use Rattle.session_records.specs.View.{record_view};
+    ghost use Rattle.spec_records.specs.Records.{record_limit};
+    ghost use Rattle.context_records.specs.View.{record_view};
     ghost use Rattle.context_store.specs.Stores.{AreNamed, Stored};
 
     ghost Value = { Stored };

@@ -1,13 +1,13 @@
 ghost use Rattle.std.specs.Prelude.{IfOk, IsTrue};
-ghost use Rattle.spec_protocol.specs.RecordDocument.{is_well_named};
-ghost use Rattle.session_records.specs.View.{record_view};
+ghost use Rattle.spec_records.specs.RecordDocument.{is_well_named};
+ghost use Rattle.context_records.specs.View.{record_view};
 
 use crate::{AddFault, OpenFault, open_store};
 use doc_forms::is_node_name;
 use http_message::Kind;
 use n32_outside::{FailItem, FailList, Keeper, MemKeeper};
 use n32_values::{Hex64, Text};
-use session_records::Record;
+use context_records::Record;
 use std::alloc::Global;
 use std::test::Fail;
 

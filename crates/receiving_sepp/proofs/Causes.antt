@@ -3,7 +3,7 @@ use Rattle.std.proofs.Common.{◌≡◌, ℕ, Bool, true, false, List, length, O
 use Rattle.std.specs.Prelude.{⊤}
 use Rattle.spec_documents.specs.Tree.{Tree}
 use Rattle.spec_messages.specs.Message.{wanted}
-use Rattle.spec_protocol.specs.Records.{Record, delivered_at}
+use Rattle.spec_records.specs.Records.{Record, delivered_at}
 use Rattle.spec_exchange.specs.Chain.{◌>>=◌, unless, none_of, or_refused}
 use Rattle.spec_exchange.specs.Jwe.{content_key, misfit}
 use Rattle.spec_exchange.specs.Received.{received}

@@ -3,7 +3,7 @@ use Rattle.std.proofs.Common.{◌≡◌, ℕ, List, length, Result, Ok, Err, Opt
 use Rattle.spec_documents.specs.Tree.{Tree}
 use Rattle.spec_messages.specs.Message.{Message, wanted}
 use Rattle.spec_messages.specs.Policy.{Policy}
-use Rattle.spec_protocol.specs.Records.{Record, open_context, keys, delivered_at}
+use Rattle.spec_records.specs.Records.{Record, open_context, keys, delivered_at}
 use Rattle.spec_exchange.specs.Chain.{◌>>=◌, unless, none_of, or_refused}
 use Rattle.jwe_flat.specs.declared.jwe.FlatJwe.{FlatJwe}
 use Rattle.jwe_flat.specs.declared.key.ContentKey.{ContentKey}

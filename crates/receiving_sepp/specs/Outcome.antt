@@ -1,7 +1,7 @@
 -- What accepting a document comes to: the answer, and what is held after it.
 use Rattle.std.specs.Prelude.{◌≡◌, ℕ, List, Option, Result, Ok, Err}
 use Rattle.spec_documents.specs.Tree.{Tree}
-use Rattle.spec_protocol.specs.Records.{Record}
+use Rattle.spec_records.specs.Records.{Record}
 use Rattle.http_message.specs.Reading.{kind_view, message_view}
 use Rattle.context_store.specs.Stores.{Stored}
 use Rattle.context_calls.specs.Changes.{Nothing, CallBy, PutBy, with_room}

@@ -3,11 +3,11 @@ use Rattle.std.specs.Prelude.{ℕ, List, length, Option, Result, Ok}
 use Rattle.spec_documents.specs.Tree.{Tree}
 use Rattle.spec_messages.specs.Message.{Message, wanted}
 use Rattle.spec_messages.specs.Policy.{Policy}
-use Rattle.spec_protocol.specs.Records.{Context, Record, open_context, keys, delivered_at}
+use Rattle.spec_records.specs.Records.{Context, Record, open_context, keys, delivered_at}
 use Rattle.http_message.specs.Reading.{message_view}
 use Rattle.jwe_flat.specs.declared.jwe.FlatJwe.{FlatJwe}
 use Rattle.jwe_flat.specs.declared.key.ContentKey.{ContentKey}
-use Rattle.session_records.specs.View.{context_view}
+use Rattle.context_records.specs.View.{context_view}
 use Rattle.spec_exchange.specs.Chain.{◌>>=◌, none_of, or_refused}
 use Rattle.spec_exchange.specs.FirstFailed.{receive_key}
 use Rattle.spec_exchange.specs.Jwe.{content_key, misfit, opened}

@@ -3,7 +3,7 @@ ghost use Rattle.std.specs.Prelude.{◌≡◌, ◌<◌, ◌≤◌, true, length,
 ghost use Rattle.spec_documents.specs.Text.{is_node_name};
 ghost use Rattle.n32_outside.specs.Causes.{Rose};
 ghost use Rattle.context_store.specs.Stores.{IsConsistent};
-ghost use Rattle.spec_protocol.specs.Records.{record_limit};
+ghost use Rattle.spec_records.specs.Records.{record_limit};
 ghost use Rattle.receiving_sepp.specs.Outcome.{Delivers, delivery_view};
 
 use crate::checks::Checked;
@@ -11,7 +11,7 @@ use crate::refused::{Delivered, Refused};
 use context_store::{AddFault, Store};
 use n32_outside::Keeper;
 use n32_values::Text;
-use session_records::Record;
+use context_records::Record;
 use std::alloc::Global;
 
 /// Puts the record of a checked message, and delivers it.

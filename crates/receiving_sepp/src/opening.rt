@@ -2,9 +2,9 @@
 ghost use Rattle.std.specs.Prelude.{[], IfOk, IsTrue};
 ghost use Rattle.spec_documents.specs.Text.{is_node_name};
 ghost use Rattle.spec_messages.specs.Message.{wanted};
-ghost use Rattle.spec_protocol.specs.Records as spec;
+ghost use Rattle.spec_records.specs.Records as spec;
 ghost use Rattle.http_message.specs.Reading.{kind_view};
-ghost use Rattle.session_records.specs.View.{context_view, key_set_view};
+ghost use Rattle.context_records.specs.View.{context_view, key_set_view};
 ghost use Rattle.spec_exchange.specs.Chain.{none_of};
 ghost use Rattle.spec_exchange.specs.Refusals as refusals;
 ghost use Rattle.receiving_sepp.specs.Refusing.{Gives, parts_view};
@@ -17,7 +17,7 @@ use context_store::Store;
 use http_message::Kind;
 use jwe_flat::{ContentKey, FlatJwe, JweOpen, open_jwe};
 use n32_values::{Bytes, Hex64, Text};
-use session_records::{Context, KeySet};
+use context_records::{Context, KeySet};
 use spec_exchange::readings::jwes_are_computed;
 use std::alloc::Global;
 

@@ -8,7 +8,7 @@ use Rattle.script_loop.specs.Lines.{lines_of, ended_lines, IsWithin}
 use Rattle.script_loop.specs.Ends.{Ends, Answers, AnswersInPart, MeetsNoLimit}
 use Rattle.script_loop.specs.declared.ending.Ending.{Ending}
 use Rattle.script_loop.specs.declared.ending.Ending.TheVariants as ending
-use Rattle.spec_protocol.specs.Records.{Record, record_limit}
+use Rattle.spec_records.specs.Records.{Record, record_limit}
 use Rattle.spec_script.specs.Steps.{State}
 use Rattle.spec_script.specs.Output.{Answered, Numbered, Output, answers_text, begin}
 use Rattle.context_store.specs.Stores.{AreRecords, Holds}

@@ -8,8 +8,8 @@ use Rattle.std.proofs.lemmas.List.{take-append-drop}
 use Rattle.n32_outside.specs.Contents.{Stays}
 use Rattle.script_loop.specs.Limits.{script_limit}
 use Rattle.script_loop.specs.Lines.{lines_of, ended_lines, IsWithin}
-use Rattle.spec_protocol.specs.Records.{Record}
-use Rattle.session_records.specs.Reading.{ReadsRecord}
+use Rattle.spec_records.specs.Records.{Record}
+use Rattle.context_records.specs.Reading.{ReadsRecord}
 use Rattle.spec_script.specs.Steps.{State}
 use Rattle.spec_script.specs.Output.{Answered, Numbered, Output, answers_text, begin}
 use Rattle.context_store.specs.Stores.{AreRecords, HasNoBad, IsNoRecord, IsFirstBad}

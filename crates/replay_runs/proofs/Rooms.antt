@@ -3,7 +3,7 @@ use Rattle.std.proofs.Common.{◌≡◌, ℕ, ◌<◌, ◌≤◌, Bool, true, fa
 use Rattle.std.proofs.lemmas.Bool.{leb-false}
 use Rattle.spec_documents.specs.Tree.{Tree}
 use Rattle.spec_messages.specs.Message.{Message}
-use Rattle.spec_protocol.specs.Records.{KeySet, Context, Record, record_limit}
+use Rattle.spec_records.specs.Records.{KeySet, Context, Record, record_limit}
 use Rattle.spec_exchange.specs.Chain.{◌>>=◌, unless}
 use Rattle.spec_exchange.specs.Outside.{Choice, Putting, Kept, Lost, KeptUntold, with_put}
 use Rattle.spec_exchange.specs.FirstFailed.{first_failed}

@@ -4,7 +4,7 @@ use Rattle.std.specs.Io.KnownBytes.{Appends}
 use Rattle.n32_outside.specs.Causes.{Rose, RoseBy}
 use Rattle.script_loop.specs.Limits.{script_limit}
 use Rattle.script_loop.specs.Lines.{lines_of, ended_lines, IsFirstLong, IsWithin, IsTooLarge}
-use Rattle.spec_protocol.specs.Records.{Record, record_limit}
+use Rattle.spec_records.specs.Records.{Record, record_limit}
 use Rattle.spec_exchange.specs.Refusals.{Journal}
 use Rattle.spec_script.specs.Refusals.{Refusal, OfCall}
 use Rattle.spec_script.specs.Steps.{State}

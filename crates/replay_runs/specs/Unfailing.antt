@@ -1,6 +1,6 @@
 -- The answers of a run in which nothing fails: a function of the records and the script.
 use Rattle.std.specs.Prelude.{ℕ, ◌+◌, List, [], ◌∷◌, if◌then◌else◌}
-use Rattle.spec_protocol.specs.Records.{Record}
+use Rattle.spec_records.specs.Records.{Record}
 use Rattle.spec_exchange.specs.Outside.{no_fault}
 use Rattle.script_loop.specs.Lines.{lines_of, is_blank}
 use Rattle.spec_script.specs.Steps.{State, Step, after, line_step}

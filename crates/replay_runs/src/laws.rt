@@ -2,7 +2,7 @@
 
 ghost use Rattle.std.specs.Prelude.{◌≡◌, ◌≤◌, ℕ, List, true, count_by};
 ghost use Rattle.spec_messages.specs.Message.{Kind};
-ghost use Rattle.spec_protocol.specs.Records.{Record, was_delivered, was_sent};
+ghost use Rattle.spec_records.specs.Records.{Record, was_delivered, was_sent};
 ghost use Rattle.spec_script.specs.Steps.{State};
 ghost use Rattle.spec_script.specs.Output.{Output, delivers, numbers};
 

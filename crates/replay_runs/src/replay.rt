@@ -3,7 +3,7 @@ ghost use Rattle.std.specs.Io.KnownBytes.{Consumes};
 ghost use Rattle.n32_outside.specs.Causes.{Rose};
 ghost use Rattle.script_loop.specs.Limits.{script_limit};
 ghost use Rattle.script_loop.specs.Lines.{IsWithin};
-ghost use Rattle.spec_protocol.specs.Records.{record_limit};
+ghost use Rattle.spec_records.specs.Records.{record_limit};
 ghost use Rattle.context_store.specs.Stores.{Holds, IsFirstBad};
 ghost use Rattle.replay_world.specs.Worlds.{IsReady};
 ghost use Rattle.replay_runs.specs.Replays.{Leaves, WritesFront, OverRecords, AreHeld, IsComplete};

@@ -3,7 +3,7 @@ use Rattle.std.proofs.Common.{◌≡◌, ◌+◌, ℕ, List, [], ◌∷◌, ◌+
 use Rattle.std.specs.Prelude.{option_map}
 use Rattle.spec_documents.specs.Tree.{Tree}
 use Rattle.spec_messages.specs.Message.{Message}
-use Rattle.spec_protocol.specs.Records.{Record}
+use Rattle.spec_records.specs.Records.{Record}
 use Rattle.http_message.specs.Reading.{message_view}
 use Rattle.spec_exchange.specs.Refusals as exchange
 use Rattle.spec_exchange.specs.Outside.{Choice}

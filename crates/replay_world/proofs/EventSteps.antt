@@ -5,8 +5,8 @@ use Rattle.std.proofs.lemmas.Bool.{lt-leb, le-leb}
 use Rattle.spec_documents.specs.Tree.{Tree}
 use Rattle.spec_messages.specs.Message.{Message, wanted}
 use Rattle.spec_messages.specs.Policy.{Policy}
-use Rattle.spec_protocol.specs.Records.{KeySet, Context, Record, Opened, Keyed, record_limit, used, open_context, keys, keys_fit}
-use Rattle.spec_protocol.specs.RecordDocument.{is_well_named}
+use Rattle.spec_records.specs.Records.{KeySet, Context, Record, Opened, Keyed, record_limit, used, open_context, keys, keys_fit}
+use Rattle.spec_records.specs.RecordDocument.{is_well_named}
 use Rattle.spec_exchange.specs.Chain.{◌>>=◌, unless}
 use Rattle.spec_exchange.specs.Refusals.{Beyond, many_records, ContextNotFound}
 use Rattle.spec_exchange.specs.Outside.{Choice, Read}

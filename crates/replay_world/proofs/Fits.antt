@@ -9,7 +9,7 @@ use Rattle.spec_documents.specs.Place.{◌>>=◌}
 use Rattle.spec_documents.specs.Text.{is_identity, is_node_name}
 use Rattle.spec_messages.specs.Message.{wanted, any_text, text_if, text_in, onto_read, all_read}
 use Rattle.spec_messages.specs.PolicyDocument.{listed}
-use Rattle.spec_protocol.specs.RecordDocument.{identities, ipx_in, are_ipx}
+use Rattle.spec_records.specs.RecordDocument.{identities, ipx_in, are_ipx}
 use Rattle.spec_script.specs.Events.{Event, AddNode, AddContext, AddKeys, Send, Inject, Deliver, Restart, read_at, node_in, id_in, plmn_in, suite_in, any_value, whole_in, pair_in, first_in, answers_in, node_event, context_event, keys_event, send_event, inject_event, deliver_event, restart_event, event_named, event_of}
 use Rattle.replay_world.specs.Fitting.{IsFit}
 

@@ -3,8 +3,8 @@ use Rattle.std.proofs.Common.{◌≡◌, ℕ, List, [], ◌∷◌, ◌++◌, Opt
 use Rattle.spec_documents.specs.Tree.{Tree}
 use Rattle.n32_values.specs.Reading.{ReadsTo}
 use Rattle.n32_values.specs.declared.memory.NoMemory.{NoMemory}
-use Rattle.spec_protocol.specs.Records.{Record}
-use Rattle.session_records.specs.Reading.{ReadsRecord, written}
+use Rattle.spec_records.specs.Records.{Record}
+use Rattle.context_records.specs.Reading.{ReadsRecord, written}
 use Rattle.context_store.specs.Stores.{AreRecords, IsFirstBad}
 use Rattle.context_calls.specs.Changes.{Keeps}
 use Rattle.spec_exchange.specs.Outside.{Choice, Reading, Read, ReadFails, BadRecord, with_put}

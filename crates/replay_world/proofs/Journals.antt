@@ -2,7 +2,7 @@
 use Rattle.std.proofs.Common.{◌≡◌, ℕ, List, Bool, true, false, Option, Some, None, Result, Ok, Err, refl, ap, subst}
 use Rattle.spec_documents.specs.Tree.{Tree}
 use Rattle.spec_messages.specs.Message.{Message, wanted}
-use Rattle.spec_protocol.specs.Records.{KeySet, Context, Record}
+use Rattle.spec_records.specs.Records.{KeySet, Context, Record}
 use Rattle.spec_exchange.specs.Chain.{◌>>=◌, unless, none_of, or_refused}
 use Rattle.spec_exchange.specs.Refusals as exchange
 use Rattle.spec_exchange.specs.Received.{Received}

@@ -1,6 +1,6 @@
 -- What a step leaves, from what its parts leave.
 use Rattle.std.proofs.Common.{◌≡◌, ⊎_elim, ℕ, ◌≤◌, List, [], length, Bool, true, false, Option, None, Result, Ok, Err, refl, sym, ap, subst, ◌∙◌, inl, inr}
-use Rattle.spec_protocol.specs.Records.{Record, record_limit}
+use Rattle.spec_records.specs.Records.{Record, record_limit}
 use Rattle.n32_outside.specs.Contents.{Stays}
 use Rattle.context_store.specs.Stores.{Stored, Holds, IsConsistent}
 use Rattle.context_calls.specs.Changes.{Change, CallBy}

@@ -9,7 +9,7 @@ use Rattle.spec_documents.specs.Place as place
 use Rattle.spec_documents.specs.Compact.{compact_text}
 use Rattle.spec_messages.specs.Policy.{values}
 use Rattle.spec_messages.specs.Block.{Block, block_tree}
-use Rattle.spec_protocol.specs.Records.{OneKey, Context, Record}
+use Rattle.spec_records.specs.Records.{OneKey, Context, Record}
 use Rattle.http_message.specs.Stage.{is_built}
 use Rattle.context_store.specs.Stores.{Stored}
 use Rattle.spec_exchange.specs.Chain.{◌>>=◌, unless, or_refused}

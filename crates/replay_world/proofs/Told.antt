@@ -13,7 +13,7 @@ use Rattle.context_calls.specs.Changes.{CallBy, Nothing}
 use Rattle.spec_exchange.specs.Rebuilding as rebuilding
 use Rattle.spec_exchange.specs.Refusals as exchange
 use Rattle.spec_exchange.specs.Outside.{Choice, Outcome}
-use Rattle.spec_protocol.specs.Records.{Record}
+use Rattle.spec_records.specs.Records.{Record}
 use Rattle.spec_exchange.specs.Calls.{Asks, accepted, sends}
 use Rattle.sending_sepp.specs.Sending as sending
 use Rattle.sending_sepp.specs.Outcome as sent

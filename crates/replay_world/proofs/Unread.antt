@@ -1,7 +1,7 @@
 -- Where the keeper isn't read, the records do not matter.
 use Rattle.std.proofs.Common.{◌≡◌, List, None, Result, Ok, Err, refl}
 use Rattle.spec_documents.specs.Tree.{Tree}
-use Rattle.spec_protocol.specs.Records.{Record}
+use Rattle.spec_records.specs.Records.{Record}
 use Rattle.spec_exchange.specs.Chain.{◌>>=◌}
 use Rattle.spec_exchange.specs.Outside.{Choice, Reading, Read, ReadFails, BadRecord, Outcome, behind_reading}
 use Rattle.spec_exchange.specs.FirstFailed.{Delivery}

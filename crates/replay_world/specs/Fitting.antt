@@ -1,7 +1,7 @@
 -- What is known of an event that was read.
 use Rattle.std.specs.Prelude.{⊤, ◌&&◌, IsTrue}
 use Rattle.spec_documents.specs.Text.{is_node_name}
-use Rattle.spec_protocol.specs.RecordDocument.{are_ipx}
+use Rattle.spec_records.specs.RecordDocument.{are_ipx}
 use Rattle.spec_script.specs.Events.{Event, AddNode, AddContext, AddKeys, Send, Inject, Deliver, Restart}
 use Rattle.replay_world.specs.Worlds.{IsShallow}
 

@@ -1,7 +1,7 @@
 -- Parts of the steps of contexts and keys that are handed in.
 use Rattle.std.specs.Prelude.{ℕ, List, not, is_some, Result, Ok, codes}
 use Rattle.spec_messages.specs.Message.{wanted}
-use Rattle.spec_protocol.specs.Records.{KeySet, Context, Record, Opened, Keyed, keys_fit, used, open_context, keys}
+use Rattle.spec_records.specs.Records.{KeySet, Context, Record, Opened, Keyed, keys_fit, used, open_context, keys}
 use Rattle.spec_exchange.specs.Chain.{◌>>=◌, unless}
 use Rattle.spec_exchange.specs.Refusals.{ContextNotFound}
 use Rattle.spec_exchange.specs.Outside.{Choice}

@@ -3,7 +3,7 @@ use Rattle.std.specs.Prelude.{◌≡◌, ⊤, ℕ, ◌≤◌, true, List, [], �
 use Rattle.std.specs.List.{AllByRecursion}
 use Rattle.spec_documents.specs.Tree.{Tree, depth}
 use Rattle.n32_outside.specs.Causes.{Rose}
-use Rattle.spec_protocol.specs.Records.{Record}
+use Rattle.spec_records.specs.Records.{Record}
 use Rattle.spec_exchange.specs.Outside.{Choice, with_put}
 use Rattle.spec_exchange.specs.Refusals.{Journal}
 use Rattle.spec_script.specs.Refusals.{OfCall}

@@ -2,9 +2,9 @@
 ghost use Rattle.std.specs.Prelude.{◌≡◌, ◌≤◌, true, IsErrOf, IsTrue};
 ghost use Rattle.n32_outside.specs.Causes.{Rose};
 ghost use Rattle.spec_documents.specs.Text.{is_node_name};
-ghost use Rattle.spec_protocol.specs.Records as records;
-ghost use Rattle.spec_protocol.specs.RecordDocument.{is_well_named};
-ghost use Rattle.session_records.specs.View.{context_view, key_set_view, record_view};
+ghost use Rattle.spec_records.specs.Records as records;
+ghost use Rattle.spec_records.specs.RecordDocument.{is_well_named};
+ghost use Rattle.context_records.specs.View.{context_view, key_set_view, record_view};
 ghost use Rattle.script_events.specs.View.{handed_view};
 ghost use Rattle.spec_script.specs.Events.{AddContext, AddKeys};
 ghost use Rattle.spec_script.specs.Steps as spec;
@@ -23,7 +23,7 @@ use n32_values::{Bytes, Hex64, Text};
 use policy_documents::{PolicyRead, read_policy};
 use script_answers::{Refusal, done_text};
 use script_events::HandedContext;
-use session_records::{Context, KeySet, Record};
+use context_records::{Context, KeySet, Record};
 use std::alloc::Global;
 
 // The context that is handed in, with the policy that its document is of.

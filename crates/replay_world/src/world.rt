@@ -2,7 +2,7 @@
 ghost use Rattle.std.specs.Prelude.{◌≡◌, ◌≤◌, [], true, false, length, IfErr, IsErrOf, OnErr, OnOk, Option, List, ℕ};
 ghost use Rattle.n32_outside.specs.Causes.{Rose};
 ghost use Rattle.n32_outside.specs.Contents.{Stays};
-ghost use Rattle.spec_protocol.specs.Records.{record_limit};
+ghost use Rattle.spec_records.specs.Records.{record_limit};
 ghost use Rattle.context_store.specs.Stores.{HasNoBad, Holds, NamesBad};
 ghost use Rattle.replay_world.specs.Worlds.{IsReady};
 

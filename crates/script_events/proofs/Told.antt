@@ -2,10 +2,10 @@
 use Rattle.std.proofs.Common.{Option, Some, None, Result, Ok, Err, refl}
 use Rattle.spec_messages.specs.Message.{wanted}
 use Rattle.spec_messages.specs.Policy.{result_ok}
-use Rattle.spec_protocol.specs.RecordDocument.{NoRecord, no_record}
-use Rattle.session_records.specs.Reading as records
-use Rattle.session_records.specs.declared.read.RecordRead.{RecordRead}
-use Rattle.session_records.specs.declared.read.RecordRead.TheVariants.{Form, NoMemory}
+use Rattle.spec_records.specs.RecordDocument.{NoRecord, no_record}
+use Rattle.context_records.specs.Reading as records
+use Rattle.context_records.specs.declared.read.RecordRead.{RecordRead}
+use Rattle.context_records.specs.declared.read.RecordRead.TheVariants.{Form, NoMemory}
 use Rattle.script_events.specs.declared.member.EventMember.{EventMember}
 use Rattle.script_events.specs.Members.{member_name}
 use Rattle.script_events.specs.Reading.{Gives, of_member}

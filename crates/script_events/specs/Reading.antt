@@ -1,7 +1,7 @@
 -- What reading an event may answer.
 use Rattle.std.specs.Prelude.{◌≡◌, ⊤, ℕ, List, Result, Ok, Err}
-use Rattle.session_records.specs.declared.read.RecordRead.{RecordRead}
-use Rattle.session_records.specs.declared.read.RecordRead.TheVariants as records
+use Rattle.context_records.specs.declared.read.RecordRead.{RecordRead}
+use Rattle.context_records.specs.declared.read.RecordRead.TheVariants as records
 use Rattle.script_events.specs.declared.member.EventMember.{EventMember}
 use Rattle.script_events.specs.declared.refusal.EventRead.{EventRead}
 use Rattle.script_events.specs.declared.refusal.EventRead.TheVariants.{Member, NoMemory}

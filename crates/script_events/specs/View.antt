@@ -1,7 +1,7 @@
 -- The event of the definitions that a value of the program is.
 use Rattle.std.specs.Prelude.{option_map}
 use Rattle.n32_values.specs.View.{tree_of}
-use Rattle.session_records.specs.View.{suite_view, key_set_view}
+use Rattle.context_records.specs.View.{suite_view, key_set_view}
 use Rattle.spec_script.specs.Events as spec
 use Rattle.script_events.specs.declared.event.HandedContext.{HandedContext}
 use Rattle.script_events.specs.declared.event.Event.{Event}

@@ -1,7 +1,7 @@
 // Events.
 use jwe_flat::Suite;
 use n32_values::{Hex64, Node, PlmnId, Text, TextList, Whole};
-use session_records::KeySet;
+use context_records::KeySet;
 
 /// A context that is handed in. Its policy is a document whose form is judged later.
 #[derive(Drop)]

@@ -14,7 +14,7 @@ use crate::words::{
     value_at, whole_at,
 };
 use n32_values::{Doc, Node, NodeMap};
-use session_records::KeySet;
+use context_records::KeySet;
 use std::alloc::Global;
 
 fn read_added_node(alloc: Global, map: &NodeMap) -> Result<Event, EventRead>

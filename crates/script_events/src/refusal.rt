@@ -3,7 +3,7 @@ ghost use Rattle.script_events.specs.Reading.{IsMemory, of_member};
 
 use crate::member::EventMember;
 use n32_values::NoMemory;
-use session_records::RecordRead;
+use context_records::RecordRead;
 
 /// Why a document is read to no event.
 #[derive(Clone, Copy, Debug, PartialEq, Eq, Drop)]

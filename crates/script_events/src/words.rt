@@ -1,9 +1,9 @@
 // The members of events.
 ghost use Rattle.std.specs.Prelude.{◌≡◌, option_map};
 ghost use Rattle.n32_values.specs.View.{tree_of};
-ghost use Rattle.session_records.specs.View.{suite_view, key_pair_view};
+ghost use Rattle.context_records.specs.View.{suite_view, key_pair_view};
 ghost use Rattle.spec_script.specs.Events as spec;
-ghost use Rattle.spec_protocol.specs.RecordDocument as document;
+ghost use Rattle.spec_records.specs.RecordDocument as document;
 ghost use Rattle.script_events.specs.Members.{member_name};
 ghost use Rattle.script_events.specs.Reading.{Gives};
 
@@ -11,9 +11,9 @@ use crate::member::EventMember;
 use crate::refusal::{EventRead, of_member};
 use jwe_flat::Suite;
 use n32_values::{Hex64, Node, NodeMap, PlmnId, Text, TextList, Whole, read_hex64};
-use session_records::OneKey;
-use session_records::keys::read_key_pair;
-use session_records::words::{
+use context_records::OneKey;
+use context_records::keys::read_key_pair;
+use context_records::words::{
     number_of, read_id, read_ipx, read_network, read_node_name, read_suite,
 };
 use std::alloc::Global;

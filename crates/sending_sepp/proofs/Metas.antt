@@ -4,8 +4,8 @@ use Rattle.std.proofs.lemmas.Bool.{and_parts, or_left}
 use Rattle.std.specs.List.{list_all}
 use Rattle.spec_documents.specs.Text.{is_identity}
 use Rattle.spec_messages.specs.Block.{is_meta}
-use Rattle.spec_protocol.specs.Records.{Context}
-use Rattle.spec_protocol.specs.RecordDocument.{are_ipx}
+use Rattle.spec_records.specs.Records.{Context}
+use Rattle.spec_records.specs.RecordDocument.{are_ipx}
 use Rattle.spec_exchange.specs.Calls.{authorized, metadata_for}
 use Rattle.spec_exchange.proofs.UntouchedLemmas.{is_meta-for}
 

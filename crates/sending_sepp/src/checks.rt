@@ -2,10 +2,10 @@
 ghost use Rattle.std.specs.Prelude.{◌≡◌, ◌≤◌, IfErr, IfOk, IsTrue, OnOk};
 ghost use Rattle.spec_documents.specs.Text.{is_node_name};
 ghost use Rattle.spec_messages.specs.Message.{is_whole, body_depth, of_request, wanted};
-ghost use Rattle.spec_protocol.specs.Records as spec;
-ghost use Rattle.spec_protocol.specs.RecordDocument.{are_ipx};
+ghost use Rattle.spec_records.specs.Records as spec;
+ghost use Rattle.spec_records.specs.RecordDocument.{are_ipx};
 ghost use Rattle.http_message.specs.Reading.{message_view};
-ghost use Rattle.session_records.specs.View.{context_view, key_set_view};
+ghost use Rattle.context_records.specs.View.{context_view, key_set_view};
 ghost use Rattle.spec_exchange.specs.Refusals as refusals;
 ghost use Rattle.sending_sepp.specs.Sending.{Gives};
 ghost use Rattle.sending_sepp.specs.Outcome.{ChecksOut, IsOfChecks};
@@ -16,7 +16,7 @@ use context_calls::{keys_fit_suite, mapping_for};
 use context_store::Store;
 use http_message::{Kind, Message};
 use n32_values::{Doc, Hex64, Text};
-use session_records::{Context, KeySet};
+use context_records::{Context, KeySet};
 use std::alloc::Global;
 
 /// A sealed request, and what its record says.

@@ -2,14 +2,14 @@
 ghost use Rattle.std.specs.Prelude.{◌≡◌, ◌<◌, ◌^◌, IfOk, IsTrue};
 ghost use Rattle.spec_documents.specs.Ids.{id_text};
 ghost use Rattle.spec_messages.specs.Block.{is_meta};
-ghost use Rattle.spec_protocol.specs.RecordDocument.{are_ipx};
+ghost use Rattle.spec_records.specs.RecordDocument.{are_ipx};
 ghost use Rattle.block_forms.specs.Metadata.{meta_view};
-ghost use Rattle.session_records.specs.View.{context_view};
+ghost use Rattle.context_records.specs.View.{context_view};
 ghost use Rattle.spec_exchange.specs.Calls as spec;
 
 use block_forms::Meta;
 use n32_values::{Hex64, NoMemory, Text, TextList, hex64_text};
-use session_records::Context;
+use context_records::Context;
 use std::alloc::Global;
 
 fn text_of(alloc: Global, id: Hex64) -> Result<Text, NoMemory>

@@ -1,7 +1,7 @@
 // The record of a request, which is put before its document is handed out.
 ghost use Rattle.std.specs.Prelude.{◌≡◌, ◌<◌, ◌≤◌, length, true, IsTrue, IsErrOf};
 ghost use Rattle.spec_documents.specs.Text.{is_node_name};
-ghost use Rattle.spec_protocol.specs.Records.{record_limit};
+ghost use Rattle.spec_records.specs.Records.{record_limit};
 ghost use Rattle.n32_outside.specs.Causes.{Rose};
 ghost use Rattle.context_store.specs.Stores.{IsConsistent};
 ghost use Rattle.sending_sepp.specs.Outcome.{Records, sealed_view};
@@ -13,7 +13,7 @@ use context_store::{AddFault, Store};
 use http_message::Kind;
 use n32_outside::Keeper;
 use n32_values::{Doc, Hex64, Text};
-use session_records::Record;
+use context_records::Record;
 use std::alloc::Global;
 
 /// Puts the record of a sealed request, and hands out its document.

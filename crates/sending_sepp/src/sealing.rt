@@ -3,10 +3,10 @@ ghost use Rattle.std.specs.Prelude.{◌≡◌, ◌≤◌, IfErr, IfOk, IsTrue, l
 ghost use Rattle.spec_documents.specs.Compact.{compact_text};
 ghost use Rattle.spec_messages.specs.Message.{is_whole, body_depth, of_request};
 ghost use Rattle.spec_messages.specs.Policy.{values};
-ghost use Rattle.spec_protocol.specs.Records.{keys_fit};
-ghost use Rattle.spec_protocol.specs.RecordDocument.{are_ipx};
+ghost use Rattle.spec_records.specs.Records.{keys_fit};
+ghost use Rattle.spec_records.specs.RecordDocument.{are_ipx};
 ghost use Rattle.http_message.specs.Reading.{message_view};
-ghost use Rattle.session_records.specs.View.{context_view, key_set_view, suite_view};
+ghost use Rattle.context_records.specs.View.{context_view, key_set_view, suite_view};
 ghost use Rattle.spec_exchange.specs.Calls.{sealed_document, send_key as key_to_send, sent_block_of, split_limit};
 ghost use Rattle.spec_exchange.specs.Chain.{none_of};
 ghost use Rattle.spec_exchange.specs.Jwe.{carrier, content_key, nonce, sealed};
@@ -25,7 +25,7 @@ use n32_values::{Doc, Hex64, NoMemory, doc_text};
 use prins_document::wire_doc;
 use reformat_blocks::Split;
 use sealed_values::values_text;
-use session_records::{Context, KeySet};
+use context_records::{Context, KeySet};
 use spec_exchange::readings::jwes_are_computed;
 use std::alloc::Global;
 

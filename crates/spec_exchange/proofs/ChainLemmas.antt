@@ -3,7 +3,7 @@ use Rattle.std.proofs.Common.{◌≡◌, ℕ, ◌<◌, Bool, true, false, List, 
 use Rattle.std.proofs.lemmas.Bool.{leb-false}
 use Rattle.spec_documents.specs.Tree.{Tree}
 use Rattle.spec_messages.specs.Message.{Message, wanted}
-use Rattle.spec_protocol.specs.Records.{Record, record_limit, delivered_at, next_seq}
+use Rattle.spec_records.specs.Records.{Record, record_limit, delivered_at, next_seq}
 use Rattle.spec_exchange.specs.Chain.{◌>>=◌, unless, none_of}
 use Rattle.spec_exchange.specs.Refusals.{Refusal}
 use Rattle.spec_exchange.specs.FirstFailed.{Delivery, first_failed}

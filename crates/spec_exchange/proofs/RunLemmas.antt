@@ -7,8 +7,8 @@ use Rattle.std.proofs.lemmas.List.Folds.{list_any-append}
 use Rattle.std.proofs.lemmas.List.Sums.{sum_by-cons}
 use Rattle.std.proofs.lemmas.Slice.Eq.{bytes_eq-Decides}
 use Rattle.spec_messages.specs.Message.{Kind, of_request, of_response}
-use Rattle.spec_protocol.specs.Records.{same_kind, Record, is_of, own, is_delivery, is_numbered, was_delivered, was_sent, delivered_at}
-use Rattle.spec_protocol.proofs.RecordLemmas.{own-append, delivered_at-is_some, next_seq-new}
+use Rattle.spec_records.specs.Records.{same_kind, Record, is_of, own, is_delivery, is_numbered, was_delivered, was_sent, delivered_at}
+use Rattle.spec_records.proofs.RecordLemmas.{own-append, delivered_at-is_some, next_seq-new}
 use Rattle.spec_exchange.specs.Refusals.{Refusal}
 use Rattle.spec_exchange.specs.FirstFailed.{Delivery, first_failed}
 use Rattle.spec_exchange.specs.Outside.{Choice, with_put}

@@ -16,7 +16,7 @@ use Rattle.spec_messages.specs.Block.{Meta, RequestText, Block, request_text, me
 use Rattle.spec_messages.specs.Fault.{block_fault, member_fault, is_meta_node, meta_of, first_of, when, as_fault, bad_member, or_null}
 use Rattle.spec_messages.specs.Rebuilt.{FillFault, fill_fault}
 use Rattle.spec_messages.proofs.BlockFaults.{first_none, when_none}
-use Rattle.spec_protocol.specs.Records.{OneKey, KeySet, Context, Record, record_limit, open_context, keys, seq_at, seq_with}
+use Rattle.spec_records.specs.Records.{OneKey, KeySet, Context, Record, record_limit, open_context, keys, seq_at, seq_with}
 use Rattle.n32_values.specs.Base64url.{base64url}
 use Rattle.n32_values.specs.Document.{IsDocument}
 use Rattle.n32_values.proofs.RoundTrip.{reads_back}

@@ -8,7 +8,7 @@ use Rattle.spec_messages.specs.Policy.{values}
 use Rattle.spec_messages.specs.Split.{cleared}
 use Rattle.spec_messages.specs.Block.{Meta, Block, block_of, block_tree, at_most}
 use Rattle.spec_messages.specs.Fault.{first_of, when}
-use Rattle.spec_protocol.specs.Records.{OneKey, KeySet, Context, Record, Sent, Delivered, record_limit, open_context, keys, mapping_delivered, answered, next_seq}
+use Rattle.spec_records.specs.Records.{OneKey, KeySet, Context, Record, Sent, Delivered, record_limit, open_context, keys, mapping_delivered, answered, next_seq}
 use Rattle.spec_exchange.specs.Chain.{◌>>=◌, unless, none_of}
 use Rattle.spec_exchange.specs.Jwe.{content_key, nonce, sealed, carrier}
 use Rattle.spec_exchange.specs.Rebuilding.{plaintext, mapping_of_head}

@@ -2,7 +2,7 @@
 use Rattle.std.specs.Prelude.{ℕ, List, length, Bool, false, true, ◌||◌, nat_le, nat_lt, Option, Result, Ok}
 use Rattle.spec_documents.specs.Tree.{Tree}
 use Rattle.spec_messages.specs.Message.{Message, Kind, of_request, of_response, wanted}
-use Rattle.spec_protocol.specs.Records.{OneKey, KeySet, Record, record_limit, open_context, keys, delivered_at}
+use Rattle.spec_records.specs.Records.{OneKey, KeySet, Record, record_limit, open_context, keys, delivered_at}
 use Rattle.spec_exchange.specs.Chain.{◌>>=◌, unless, none_of, or_refused}
 use Rattle.spec_exchange.specs.Jwe.{content_key, misfit, opened}
 use Rattle.spec_exchange.specs.Received.{Received, received}

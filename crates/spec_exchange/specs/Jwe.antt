@@ -4,7 +4,7 @@ use Rattle.std.specs.Int.{w32, to_be_bytes}
 use Rattle.gcm_mode.specs.Gcm.{tag_of, with_key_stream}
 use Rattle.spec_documents.specs.Tree.{Tree, Members, members, get_member, object}
 use Rattle.spec_messages.specs.Message.{text_at, any_text, wanted}
-use Rattle.spec_protocol.specs.Records.{Suite, A128Gcm, A256Gcm, OneKey}
+use Rattle.spec_records.specs.Records.{Suite, A128Gcm, A256Gcm, OneKey}
 use Rattle.n32_values.specs.Base64url.{base64url}
 use Rattle.jwe_flat.specs.Keys.{suite_of, content_cipher}
 use Rattle.jwe_flat.specs.Header.{header_text, header_fault, members_if, object_in}

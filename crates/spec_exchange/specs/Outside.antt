@@ -1,6 +1,6 @@
 -- What the keeper may do in a call: the free choices of an event (this project's own).
 use Rattle.std.specs.Prelude.{ℕ, List, [], ◌∷◌, ◌++◌, Option, Some, None, Result, Ok, Err}
-use Rattle.spec_protocol.specs.Records.{Record}
+use Rattle.spec_records.specs.Records.{Record}
 use Rattle.spec_exchange.specs.Refusals.{Refusal, Keeper, Journal}
 
 -- what the reading of a stale store comes to. A fresh one is Read too

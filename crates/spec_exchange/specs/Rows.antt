@@ -3,8 +3,8 @@ use Rattle.std.specs.Prelude.{ℕ, List, [], ◌∷◌, ◌++◌, Some, None, co
 use Rattle.spec_messages.specs.Message.{clear, request, Message, of_request, of_response}
 use Rattle.spec_messages.specs.Policy.{Policy, fixed, variable, uri_param, ueid}
 use Rattle.spec_messages.specs.Rows.{element}
-use Rattle.spec_protocol.specs.Records.{A128Gcm, OneKey, KeySet, Context, Record, Opened, Keyed, Sent, Delivered}
-use Rattle.spec_protocol.specs.RecordRows.{sixteen_bytes}
+use Rattle.spec_records.specs.Records.{A128Gcm, OneKey, KeySet, Context, Record, Opened, Keyed, Sent, Delivered}
+use Rattle.spec_records.specs.RecordRows.{sixteen_bytes}
 
 -- GET of a subscriber's slices, the subscriber's id secret
 abbrev pub slices_policy : Policy

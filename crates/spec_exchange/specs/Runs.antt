@@ -2,7 +2,7 @@
 use Rattle.std.specs.Prelude.{ℕ, Bool, false, ◌&&◌, ◌==◌, List, [], ◌∷◌, Option, Result, Ok, Err, bytes_eq}
 use Rattle.spec_documents.specs.Tree.{Tree}
 use Rattle.spec_messages.specs.Message.{Message, Kind}
-use Rattle.spec_protocol.specs.Records.{same_kind, Record}
+use Rattle.spec_records.specs.Records.{same_kind, Record}
 use Rattle.spec_exchange.specs.Refusals.{Refusal}
 use Rattle.spec_exchange.specs.FirstFailed.{Delivery}
 use Rattle.spec_exchange.specs.Outside.{Choice, with_put}

@@ -2,7 +2,7 @@
 
 ghost use Rattle.std.specs.Prelude.{◌≡◌, ◌≤◌, ◌+◌, ℕ, List, length, map, true, Some, count_by, slice_get};
 ghost use Rattle.spec_messages.specs.Message.{Kind};
-ghost use Rattle.spec_protocol.specs.Records.{Record, record_limit, own, delivered_at, was_delivered, was_sent};
+ghost use Rattle.spec_records.specs.Records.{Record, record_limit, own, delivered_at, was_delivered, was_sent};
 ghost use Rattle.spec_exchange.specs.Outside.{Choice};
 ghost use Rattle.spec_exchange.specs.Isolation.{unnumbered_reply, own_events, own_replies};
 ghost use Rattle.spec_exchange.specs.Runs.{Call, replies, delivers, numbers};

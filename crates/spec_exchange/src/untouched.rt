@@ -5,7 +5,7 @@ ghost use Rattle.spec_messages.specs.Message.{Message, of_request, kind_of, is_w
 ghost use Rattle.spec_messages.specs.Policy.{Policy};
 ghost use Rattle.spec_messages.specs.Split.{cleared};
 ghost use Rattle.spec_messages.specs.Block.{is_ordered_body};
-ghost use Rattle.spec_protocol.specs.Records.{OneKey, KeySet, Context, Record, open_context, keys};
+ghost use Rattle.spec_records.specs.Records.{OneKey, KeySet, Context, Record, open_context, keys};
 ghost use Rattle.spec_exchange.specs.Rebuilding.{in_clear};
 ghost use Rattle.spec_exchange.specs.FirstFailed.{first_failed};
 ghost use Rattle.spec_exchange.specs.Calls.{Sealed, Asks, sent_block_of, sealed_document, protected};

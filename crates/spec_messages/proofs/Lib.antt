@@ -49,3 +49,7 @@ pub mod RebuiltLemmas
 pub mod FillGrown
 pub mod BlockDepth
 pub mod PolicyBack
+pub mod FilledTexts
+pub mod FilledLine
+pub mod FilledParts
+pub mod FilledStands

@@ -22,3 +22,4 @@ pub use Rattle.spec_documents.specs.HolePlaces
 pub mod Printing
 pub mod Plain
 pub mod Rebuilt
+pub mod StandRows

@@ -8,6 +8,7 @@ pub mod plain;
 pub mod policies;
 pub mod rebuilt;
 pub mod rows;
+pub mod stands;
 
 ghost use Rattle.std.specs.Prelude.{◌≡◌, true, ℕ, List, ◌∷◌, Ok, Option, Some, None, IsTrue, ◌≤◌, ◌++◌, length};
 ghost use Rattle.spec_messages.specs.Message.{Message, is_whole, body_depth};

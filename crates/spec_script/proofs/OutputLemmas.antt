@@ -7,7 +7,7 @@ use Rattle.std.proofs.lemmas.Grind.{common_steps}
 use Rattle.std.proofs.lemmas.List.{append-nil}
 use Rattle.spec_documents.specs.Tree.{Tree}
 use Rattle.spec_messages.specs.Message.{Message, Kind}
-use Rattle.spec_protocol.specs.Records.{Record, own, is_delivery, is_numbered, was_delivered, was_sent}
+use Rattle.spec_records.specs.Records.{Record, own, is_delivery, is_numbered, was_delivered, was_sent}
 use Rattle.spec_exchange.specs.Refusals as exchange
 use Rattle.spec_exchange.specs.Outside.{Choice, Putting, Kept, Lost, KeptUntold, with_put}
 use Rattle.spec_exchange.specs.FirstFailed.{Delivery}

@@ -7,8 +7,8 @@ use Rattle.spec_documents.specs.Text.{is_node_name}
 use Rattle.spec_messages.specs.Message.{wanted, text_in, any_text}
 use Rattle.spec_messages.specs.Policy.{result_ok}
 use Rattle.spec_messages.specs.PolicyDocument.{chosen, if_there}
-use Rattle.spec_protocol.specs.Records.{Suite, OneKey, KeySet}
-use Rattle.spec_protocol.specs.RecordDocument.{suite_of, number_of, ipx_in, key_pair_in}
+use Rattle.spec_records.specs.Records.{Suite, OneKey, KeySet}
+use Rattle.spec_records.specs.RecordDocument.{suite_of, number_of, ipx_in, key_pair_in}
 use Rattle.spec_script.specs.Refusals.{Refusal, BadEvent}
 use Rattle.spec_script.specs.LineTree.{line_tree}
 

@@ -1,7 +1,7 @@
 -- The answers to the lines of a script, each line with free choices of the keeper, and their texts (this project's own).
 use Rattle.std.specs.Prelude.{◌≡◌, ℕ, ◌+◌, ◌-◌, ◌^◌, ◌≤◌, min, Bool, true, false, MatchBool, List, [], ◌∷◌, ◌++◌}
 use Rattle.spec_messages.specs.Message.{Kind}
-use Rattle.spec_protocol.specs.Records.{Record}
+use Rattle.spec_records.specs.Records.{Record}
 use Rattle.spec_exchange.specs.Refusals.{Keeper, Journal}
 use Rattle.spec_exchange.specs.Outside.{Choice}
 use Rattle.spec_exchange.specs.Runs

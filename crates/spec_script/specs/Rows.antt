@@ -1,8 +1,8 @@
 -- Events and states of worked examples.
 use Rattle.std.specs.Prelude.{ℕ, zero, suc, List, [], ◌∷◌, ◌++◌, codes}
 use Rattle.spec_documents.specs.Tree.{Tree, null, words, items, members, object, trees}
-use Rattle.spec_protocol.specs.Records.{Record, A128Gcm, Opened, Keyed}
-use Rattle.spec_protocol.specs.RecordRows.{context_with, keys_from}
+use Rattle.spec_records.specs.Records.{Record, A128Gcm, Opened, Keyed}
+use Rattle.spec_records.specs.RecordRows.{context_with, keys_from}
 use Rattle.spec_exchange.specs.Outside.{Choice, Read, BadRecord, Kept, KeptUntold}
 use Rattle.spec_script.specs.Events.{HandedContext}
 use Rattle.spec_script.specs.Steps.{State}

@@ -4,7 +4,7 @@ use Rattle.spec_documents.specs.Tree.{Tree, null, truth, whole, words, items, me
 use Rattle.spec_messages.specs.Message.{Message, message_of, body_depth, wanted}
 use Rattle.spec_messages.specs.Policy.{Policy}
 use Rattle.spec_messages.specs.PolicyDocument.{policy_of}
-use Rattle.spec_protocol.specs.Records.{KeySet, Context, Record, Opened, Keyed, record_limit, keys_fit, used, open_context, keys}
+use Rattle.spec_records.specs.Records.{KeySet, Context, Record, Opened, Keyed, record_limit, keys_fit, used, open_context, keys}
 use Rattle.spec_exchange.specs.Chain.{◌>>=◌, unless, or_refused}
 use Rattle.spec_exchange.specs.Refusals.{Beyond, many_records, ContextNotFound, Keeper, Journal, NotBuilt}
 use Rattle.spec_exchange.specs.Refusals as exchange

@@ -3,7 +3,7 @@
 ghost use Rattle.std.specs.Prelude.{◌≡◌, ◌≤◌, ◌+◌, ℕ, pos, Bool, Some, List, [], ◌∷◌, ◌++◌, length, true, false, count_by};
 ghost use Rattle.spec_documents.specs.Tree.{Tree};
 ghost use Rattle.spec_messages.specs.Message.{Kind};
-ghost use Rattle.spec_protocol.specs.Records.{Record, was_delivered, was_sent};
+ghost use Rattle.spec_records.specs.Records.{Record, was_delivered, was_sent};
 ghost use Rattle.spec_exchange.specs.Outside.{Choice, no_fault};
 ghost use Rattle.spec_exchange.specs.Calls.{Sealed};
 ghost use Rattle.script_loop.specs.Lines.{is_blank};

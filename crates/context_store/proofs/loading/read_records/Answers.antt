@@ -2,8 +2,8 @@ use Rattle.std.proofs.Common.{◌∙◌, ◌≡◌, ◌++◌, ◌∷◌, [], len
 use Rattle.std.proofs.lemmas.List.{length_push, map-append}
 use Rattle.std.proofs.lemmas.Result.{err_from_is_err_and}
 use Rattle.spec_documents.proofs.GuardLemmas.{all-append}
-use Rattle.spec_protocol.specs.RecordDocument.{is_well_named}
-use Rattle.session_records.specs.View.{record_view}
+use Rattle.spec_records.specs.RecordDocument.{is_well_named}
+use Rattle.context_records.specs.View.{record_view}
 use Rattle.context_store.proofs.Kept.{front_more, bad_here}
 use Rattle.context_store.proofs.loading.read_records.Goals as goal
 

@@ -1,7 +1,7 @@
 use Rattle.std.proofs.Common.{◌≡◌, ◌≤◌, ◌+◌, ◌-◌, map, length}
 use Rattle.n32_outside.specs.Contents.{Stays}
-use Rattle.spec_protocol.specs.Records.{record_limit}
-use Rattle.session_records.specs.View.{record_view}
+use Rattle.spec_records.specs.Records.{record_limit}
+use Rattle.context_records.specs.View.{record_view}
 use Rattle.context_store.specs.Stores.{AreNamed}
 use Rattle.context_store.proofs.Kept.{Front}
 use Rattle.context_store.proofs.loading.read_records.Given as goal

@@ -1,5 +1,5 @@
 use Rattle.std.proofs.Common.{refl, inl}
-use Rattle.session_records.specs.View.{record_view}
+use Rattle.context_records.specs.View.{record_view}
 use Rattle.context_store.proofs.Names.{record_of_named}
 use Rattle.context_store.proofs.loading.read_text.Goals as goal
 

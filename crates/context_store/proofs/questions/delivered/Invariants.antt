@@ -1,8 +1,8 @@
 use Rattle.std.proofs.Common.{◌≡◌, ◌&&◌, map, drop}
 use Rattle.std.specs.List.{position_from}
 use Rattle.http_message.specs.Reading.{kind_view}
-use Rattle.spec_protocol.specs.Records as spec
-use Rattle.session_records.specs.View.{record_view}
+use Rattle.spec_records.specs.Records as spec
+use Rattle.context_records.specs.View.{record_view}
 use Rattle.context_store.proofs.questions.delivered.Given as goal
 
 abbrev pub invariant-loop-i : goal.invariant-loop-i

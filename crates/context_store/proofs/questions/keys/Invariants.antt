@@ -1,6 +1,6 @@
 use Rattle.std.proofs.Common.{◌≡◌, map, drop, option_map}
-use Rattle.spec_protocol.specs.Records as spec
-use Rattle.session_records.specs.View.{context_view, record_view}
+use Rattle.spec_records.specs.Records as spec
+use Rattle.context_records.specs.View.{context_view, record_view}
 use Rattle.context_store.proofs.questions.keys.Given as goal
 
 -- the keys behind what was opened so far

@@ -1,6 +1,6 @@
 use Rattle.std.proofs.Common.{◌≡◌, map, drop}
-use Rattle.spec_protocol.specs.Records as spec
-use Rattle.session_records.specs.View.{record_view}
+use Rattle.spec_records.specs.Records as spec
+use Rattle.context_records.specs.View.{record_view}
 use Rattle.context_store.proofs.questions.used.Given as goal
 
 abbrev pub invariant-loop-record : goal.invariant-loop-record

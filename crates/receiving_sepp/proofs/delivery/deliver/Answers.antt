@@ -1,5 +1,5 @@
 use Rattle.std.proofs.Common.{Err, refl, ap, inl}
-use Rattle.spec_protocol.specs.Records.{Delivered}
+use Rattle.spec_records.specs.Records.{Delivered}
 use Rattle.http_message.specs.Reading.{kind_view}
 use Rattle.context_calls.proofs.Calls.{no_room}
 use Rattle.spec_exchange.specs.Calls.{delivered_record}

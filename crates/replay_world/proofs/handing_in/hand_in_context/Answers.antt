@@ -1,5 +1,5 @@
 use Rattle.std.proofs.Common.{◌≡◌, is_some, true, false, refl, ◌∙◌}
-use Rattle.session_records.specs.View.{context_view}
+use Rattle.context_records.specs.View.{context_view}
 use Rattle.script_events.specs.View.{handed_view}
 use Rattle.spec_script.specs.Steps as spec
 use Rattle.spec_script.specs.Events.{AddContext}

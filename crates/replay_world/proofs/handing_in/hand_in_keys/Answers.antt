@@ -1,5 +1,5 @@
 use Rattle.std.proofs.Common.{◌≡◌, is_some, true, false, refl, ◌∙◌}
-use Rattle.session_records.specs.View.{key_set_view}
+use Rattle.context_records.specs.View.{key_set_view}
 use Rattle.spec_script.specs.Steps as spec
 use Rattle.spec_script.specs.Events.{AddKeys}
 use Rattle.script_answers.specs.declared.refusal.Refusal.TheVariants as refusals

@@ -1,6 +1,6 @@
 use Rattle.std.proofs.Common.{◌≡◌, true, false, refl, codes, Err}
-use Rattle.spec_protocol.specs.Records as records
-use Rattle.session_records.specs.View.{context_view}
+use Rattle.spec_records.specs.Records as records
+use Rattle.context_records.specs.View.{context_view}
 use Rattle.spec_script.specs.Refusals.{ContextUsed}
 use Rattle.spec_script.specs.Steps.{refuses}
 use Rattle.script_answers.specs.declared.refusal.Refusal.TheVariants as refusals

@@ -1,5 +1,5 @@
 use Rattle.std.proofs.Common.{refl, inl, inr, ⊎_elim}
-use Rattle.session_records.specs.View.{record_view}
+use Rattle.context_records.specs.View.{record_view}
 use Rattle.replay_world.proofs.Recording.{comes_recorded, comes_unrecorded}
 use Rattle.replay_world.proofs.handing_in.put_record.Goals as goal
 

@@ -1,6 +1,6 @@
 use Rattle.std.proofs.Common.{codes}
-use Rattle.spec_protocol.specs.Records as records
-use Rattle.session_records.specs.View.{key_set_view}
+use Rattle.spec_records.specs.Records as records
+use Rattle.context_records.specs.View.{key_set_view}
 use Rattle.replay_world.specs.Worlds.{state_of}
 use Rattle.replay_world.specs.Handing.{keys_new, keys_may_come, puts_record}
 use Rattle.replay_world.proofs.Parts.{comes_fresh, comes_unfit_fresh}

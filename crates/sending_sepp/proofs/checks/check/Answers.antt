@@ -1,5 +1,5 @@
-use Rattle.session_records.specs.View.{context_view, key_set_view}
-use Rattle.spec_protocol.specs.Records.{open_context, keys}
+use Rattle.context_records.specs.View.{context_view, key_set_view}
+use Rattle.spec_records.specs.Records.{open_context, keys}
 use Rattle.spec_exchange.specs.Refusals.{ContextNotFound, NoKeys}
 use Rattle.spec_exchange.proofs.ChainLemmas.{wanted_ok}
 use Rattle.sending_sepp.proofs.checks.check.Goals as goal

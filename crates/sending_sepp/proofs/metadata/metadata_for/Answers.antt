@@ -1,4 +1,4 @@
-use Rattle.session_records.specs.View.{context_view}
+use Rattle.context_records.specs.View.{context_view}
 use Rattle.sending_sepp.proofs.Metas.{metadata_fits}
 use Rattle.sending_sepp.proofs.metadata.metadata_for.Goals as goal
 

@@ -1,6 +1,6 @@
 use Rattle.std.proofs.Common.{[], ◌∷◌, map}
 use Rattle.std.proofs.lemmas.List.{map-append}
-use Rattle.session_records.specs.View.{record_view}
+use Rattle.context_records.specs.View.{record_view}
 use Rattle.context_store.proofs.Kept.{holds_more}
 use Rattle.context_store.proofs.store.Store.add.Goals as goal
 

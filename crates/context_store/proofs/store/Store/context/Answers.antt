@@ -1,5 +1,5 @@
 use Rattle.std.proofs.Common.{map}
-use Rattle.session_records.specs.View.{context_view, record_view}
+use Rattle.context_records.specs.View.{context_view, record_view}
 use Rattle.context_store.proofs.Names.{node_named, ipx_in_form}
 use Rattle.context_store.proofs.store.Store.context.Goals as goal
 

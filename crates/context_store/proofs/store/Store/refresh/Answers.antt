@@ -1,6 +1,6 @@
 use Rattle.std.proofs.Common.{map, arith}
 use Rattle.std.proofs.lemmas.List.{length-map}
-use Rattle.session_records.specs.View.{record_view}
+use Rattle.context_records.specs.View.{record_view}
 use Rattle.context_store.proofs.Kept.{has_no_bad}
 use Rattle.context_store.proofs.store.Store.refresh.Goals as goal
 

@@ -1,5 +1,0 @@
-use Rattle.spec_protocol.proofs.RecordLemmas.{delivered_at-is_some}
-use Rattle.spec_protocol.proofs.records.delivery_has_number.Goals as goal
-
-pub returns : goal.returns
-returns c = delivered_at-is_some

@@ -1,9 +1,0 @@
-use Rattle.spec_protocol.proofs.RecordDepth.{record_level}
-use Rattle.spec_protocol.proofs.RecordReading.{record_back}
-use Rattle.spec_protocol.proofs.records.written_record_is_read.Goals as goal
-
-pub returns-clause-shallow : goal.returns-clause-shallow
-returns-clause-shallow c = record_level
-
-pub returns-clause-read : goal.returns-clause-read
-returns-clause-read c = record_back
