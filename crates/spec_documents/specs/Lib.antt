@@ -10,3 +10,4 @@ pub mod Fields
 pub mod HolePlaces
 pub mod Examples
 pub mod Ids
+pub mod Gives
