@@ -6,60 +6,59 @@ use Rattle.n32_outside.specs.Contents.{Stays, Gains}
 use Rattle.context_records.specs.Reading.{ReadsRecord, written}
 use Rattle.context_store.specs.Stores.{Stored, Holds, IsFirstBad}
 use Rattle.spec_exchange.specs.Chain.{◌>>=◌}
-use Rattle.spec_exchange.specs.Refusals.{Refusal, Journal, Keeper, Beyond, many_records}
-use Rattle.spec_exchange.specs.Outside.{Choice, Read, ReadFails, BadRecord, Kept, Lost, KeptUntold, Outcome, puts, behind_reading, or_refusal}
+use Rattle.spec_exchange.specs.Outside.{Choice, Read, ReadFails, BadRecord, Kept, Lost, KeptUntold, Journal, Keeper, Cause, Own, Outside, Outcome, puts, behind_reading, or_refusal}
 use Rattle.context_calls.specs.Changes.{ComesTo, CallBy, with_room, putting, PutBy}
 
 -- a call that checks over the records, once they are read, and puts the record of what passes
-abbrev pub checked : {X : Type 0} → (List Record → Result X Refusal) → (X → Record) → Choice → List Record → Outcome X
+abbrev pub checked : {X R : Type 0} → (List Record → Result X R) → (X → Record) → Choice → List Record → Outcome R X
 checked checks item f records = behind_reading f.reading (or_refusal (checks records) (λ x. puts f.putting (item x) x))
 
 -- ---- the put
 
-pub roomy : {X : Type 0} (records : List Record) (x : X) → length records < record_limit → with_room records x ≡ Ok x
+pub roomy : {X R : Type 0} (e : R) (records : List Record) (x : X) → length records < record_limit → with_room e records x ≡ Ok x
 unfolding ◌>>=◌
-roomy records x lt = rw (lt-leb record_limit (length records) lt) refl
+roomy e records x lt = rw (lt-leb record_limit (length records) lt) refl
 
-pub full : {X : Type 0} (records : List Record) (x : X) → record_limit ≤ length records → with_room records x ≡ Err (Beyond many_records)
+pub full : {X R : Type 0} (e : R) (records : List Record) (x : X) → record_limit ≤ length records → with_room e records x ≡ Err e
 unfolding ◌>>=◌
-full records x le = rw (le-leb record_limit (length records) le) refl
+full e records x le = rw (le-leb record_limit (length records) le) refl
 
-pub recorded : {X : Type 0} (item : X → Record) (Answers : Result X Refusal → Type 0) (held now : Option (List (List ℕ))) (old new : Stored) (x : X)
-    → Answers (Ok x) → length old.records < record_limit → Gains held now (written (item x)) → ReadsRecord (written (item x)) (item x) → new.records ≡ old.records ++ item x ∷ [] → new.fresh ≡ true → PutBy item Answers held now old new x
-recorded item Answers held now old new x answer lt gains reads more fresh = record {
+pub recorded : {X R : Type 0} (e : R) (item : X → Record) (Answers : Result X (Cause R) → Type 0) (held now : Option (List (List ℕ))) (old new : Stored) (x : X)
+    → Answers (Ok x) → length old.records < record_limit → Gains held now (written (item x)) → ReadsRecord (written (item x)) (item x) → new.records ≡ old.records ++ item x ∷ [] → new.fresh ≡ true → PutBy e item Answers held now old new x
+recorded e item Answers held now old new x answer lt gains reads more fresh = record {
   choice = Kept;
-  comes = subst (λ w. ComesTo Answers held now old.records new (or_refusal w (λ x. puts Kept (item x) x))) (sym (roomy old.records x lt))
+  comes = subst (λ w. ComesTo Answers held now old.records new (or_refusal w (λ x. puts Kept (item x) x))) (sym (roomy e old.records x lt))
       (record { answer = answer; change = record { told = (gains, reads); kept = λ f. more }; still = λ e. fresh });
 }
 
-pub no_room : {X : Type 0} (item : X → Record) (Answers : Result X Refusal → Type 0) (held now : Option (List (List ℕ))) (old new : Stored) (x : X)
-    → Answers (Err (Beyond many_records)) → record_limit ≤ length old.records → Stays held now → new ≡ old → old.fresh ≡ true → PutBy item Answers held now old new x
-no_room item Answers held now old new x answer le stays same fresh = record {
+pub no_room : {X R : Type 0} (e : R) (item : X → Record) (Answers : Result X (Cause R) → Type 0) (held now : Option (List (List ℕ))) (old new : Stored) (x : X)
+    → Answers (Err (Own e)) → record_limit ≤ length old.records → Stays held now → new ≡ old → old.fresh ≡ true → PutBy e item Answers held now old new x
+no_room e item Answers held now old new x answer le stays same fresh = record {
   choice = Kept;
-  comes = subst (λ w. ComesTo Answers held now old.records new (or_refusal w (λ x. puts Kept (item x) x))) (sym (full old.records x le))
+  comes = subst (λ w. ComesTo Answers held now old.records new (or_refusal w (λ x. puts Kept (item x) x))) (sym (full e old.records x le))
       (record { answer = answer; change = record { told = stays; kept = λ f. ap (λ z. z.records) same }; still = λ e. ap (λ z. z.fresh) same ∙ fresh });
 }
 
 -- a put that failed may have kept the record
-pub untold : {X : Type 0} (item : X → Record) (Answers : Result X Refusal → Type 0) (held now : Option (List (List ℕ))) (old new : Stored) (x : X)
-    → Answers (Err Keeper) → length old.records < record_limit → new.fresh ≡ false → Stays held now ⊎ Gains held now (written (item x)) → ReadsRecord (written (item x)) (item x) → PutBy item Answers held now old new x
-untold item Answers held now old new x answer lt stale either reads = ⊎_elim
+pub untold : {X R : Type 0} (e : R) (item : X → Record) (Answers : Result X (Cause R) → Type 0) (held now : Option (List (List ℕ))) (old new : Stored) (x : X)
+    → Answers (Err (Outside Keeper)) → length old.records < record_limit → new.fresh ≡ false → Stays held now ⊎ Gains held now (written (item x)) → ReadsRecord (written (item x)) (item x) → PutBy e item Answers held now old new x
+untold e item Answers held now old new x answer lt stale either reads = ⊎_elim
     (λ stays. record {
       choice = Lost;
-      comes = subst (λ w. ComesTo Answers held now old.records new (or_refusal w (λ x. puts Lost (item x) x))) (sym (roomy old.records x lt))
+      comes = subst (λ w. ComesTo Answers held now old.records new (or_refusal w (λ x. puts Lost (item x) x))) (sym (roomy e old.records x lt))
           (record { answer = answer; change = record { told = stays; kept = λ f. cc }; still = λ e. cc });
     })
     (λ gains. record {
       choice = KeptUntold;
-      comes = subst (λ w. ComesTo Answers held now old.records new (or_refusal w (λ x. puts KeptUntold (item x) x))) (sym (roomy old.records x lt))
+      comes = subst (λ w. ComesTo Answers held now old.records new (or_refusal w (λ x. puts KeptUntold (item x) x))) (sym (roomy e old.records x lt))
           (record { answer = answer; change = record { told = (gains, reads); kept = λ f. cc }; still = λ e. cc });
     }) either
 
 -- ---- the call
 
 -- the store isn't read: this text is of no record
-pub bad_record : {X : Type 0} (checks : List Record → Result X Refusal) (item : X → Record) (Answers : Result X Refusal → Type 0) (held now : Option (List (List ℕ))) (old new : Stored) (number : ℕ)
-    → Answers (Err (Journal number)) → Stays held now → old.fresh ≡ false → new.fresh ≡ false → IfSome held (λ texts. IsFirstBad texts number) → CallBy (checked checks item) Answers held now old new
+pub bad_record : {X R : Type 0} (checks : List Record → Result X R) (item : X → Record) (Answers : Result X (Cause R) → Type 0) (held now : Option (List (List ℕ))) (old new : Stored) (number : ℕ)
+    → Answers (Err (Outside (Journal number))) → Stays held now → old.fresh ≡ false → new.fresh ≡ false → IfSome held (λ texts. IsFirstBad texts number) → CallBy (checked checks item) Answers held now old new
 bad_record checks item Answers held now old new number answer stays before after first = record {
   choice = record { reading = BadRecord number; putting = Kept };
   records = [];
@@ -71,8 +70,8 @@ bad_record checks item Answers held now old new number answer stays before after
 }
 
 -- the store isn't read: the keeper failed
-pub unread : {X : Type 0} (checks : List Record → Result X Refusal) (item : X → Record) (Answers : Result X Refusal → Type 0) (held now : Option (List (List ℕ))) (old new : Stored)
-    → Answers (Err Keeper) → Stays held now → old.fresh ≡ false → new.fresh ≡ false → CallBy (checked checks item) Answers held now old new
+pub unread : {X R : Type 0} (checks : List Record → Result X R) (item : X → Record) (Answers : Result X (Cause R) → Type 0) (held now : Option (List (List ℕ))) (old new : Stored)
+    → Answers (Err (Outside Keeper)) → Stays held now → old.fresh ≡ false → new.fresh ≡ false → CallBy (checked checks item) Answers held now old new
 unread checks item Answers held now old new answer stays before after = record {
   choice = record { reading = ReadFails; putting = Kept };
   records = [];
@@ -84,8 +83,8 @@ unread checks item Answers held now old new answer stays before after = record {
 }
 
 -- a check refuses over the records that were read
-pub refused : {X : Type 0} (checks : List Record → Result X Refusal) (item : X → Record) (Answers : Result X Refusal → Type 0) (held now : Option (List (List ℕ))) (old new : Stored) (e : Refusal)
-    → Answers (Err e) → Stays held now → Holds now new.records → length new.records ≤ record_limit → new.fresh ≡ true → (old.fresh ≡ true → new ≡ old) → checks new.records ≡ Err e → CallBy (checked checks item) Answers held now old new
+pub refused : {X R : Type 0} (checks : List Record → Result X R) (item : X → Record) (Answers : Result X (Cause R) → Type 0) (held now : Option (List (List ℕ))) (old new : Stored) (e : R)
+    → Answers (Err (Own e)) → Stays held now → Holds now new.records → length new.records ≤ record_limit → new.fresh ≡ true → (old.fresh ≡ true → new ≡ old) → checks new.records ≡ Err e → CallBy (checked checks item) Answers held now old new
 refused checks item Answers held now old new e answer stays holds few fresh same is = record {
   choice = record { reading = Read; putting = Kept };
   records = new.records;
@@ -98,9 +97,9 @@ refused checks item Answers held now old new e answer stays holds few fresh same
 }
 
 -- the record of what passes the checks is put over the records that were read
-pub put : {X : Type 0} (checks : List Record → Result X Refusal) (item : X → Record) (Answers : Result X Refusal → Type 0) (held mid now : Option (List (List ℕ))) (old read new : Stored) (x : X)
-    → PutBy item Answers mid now read new x → mid ≡ held → Holds mid read.records → length read.records ≤ record_limit → (old.fresh ≡ true → read ≡ old) → checks read.records ≡ with_room read.records x → CallBy (checked checks item) Answers held now old new
-put checks item Answers held mid now old read new x h stays holds few same is = record {
+pub put : {X R : Type 0} (e : R) (checks : List Record → Result X R) (item : X → Record) (Answers : Result X (Cause R) → Type 0) (held mid now : Option (List (List ℕ))) (old read new : Stored) (x : X)
+    → PutBy e item Answers mid now read new x → mid ≡ held → Holds mid read.records → length read.records ≤ record_limit → (old.fresh ≡ true → read ≡ old) → checks read.records ≡ with_room e read.records x → CallBy (checked checks item) Answers held now old new
+put e checks item Answers held mid now old read new x h stays holds few same is = record {
   choice = record { reading = Read; putting = h.choice };
   records = read.records;
   fresh = λ f. (refl, ap (λ z. z.records) (same f));
@@ -108,5 +107,5 @@ put checks item Answers held mid now old read new x h stays holds few same is = 
   few = λ r. few;
   bad = λ k r. cc;
   comes = subst (λ w. ComesTo Answers held now read.records new (or_refusal w (λ x. puts h.choice (item x) x))) (sym is)
-      (subst (λ z. ComesTo Answers z now read.records new (putting item read.records x h.choice)) stays h.comes);
+      (subst (λ z. ComesTo Answers z now read.records new (putting e item read.records x h.choice)) stays h.comes);
 }

@@ -5,8 +5,7 @@ use Rattle.n32_outside.specs.Contents.{Stays, Gains}
 use Rattle.context_records.specs.Reading.{ReadsRecord, written}
 use Rattle.context_store.specs.Stores.{Stored, Holds, IsFirstBad}
 use Rattle.spec_exchange.specs.Chain.{◌>>=◌, unless}
-use Rattle.spec_exchange.specs.Refusals.{Refusal, Journal, Keeper, Beyond, many_records}
-use Rattle.spec_exchange.specs.Outside.{Choice, Read, BadRecord, Putting, Outcome, puts, or_refusal, with_put}
+use Rattle.spec_exchange.specs.Outside.{Choice, Read, BadRecord, Putting, Cause, Outside, Outcome, puts, or_refusal, with_put}
 
 -- ---- what is held
 
@@ -28,19 +27,18 @@ pub record Nothing (held now : Option (List (List ℕ))) (old new : Stored) : Ty
 -- ---- a call
 
 -- the answer is that the keeper failed, or that it holds what is no record
-abbrev pub is_of_keeper : {X : Type 0} → Result X Refusal → Bool
-is_of_keeper (Err (Journal number)) = true
-is_of_keeper (Err Keeper) = true
+abbrev pub is_of_keeper : {X R : Type 0} → Result X (Cause R) → Bool
+is_of_keeper (Err (Outside fault)) = true
 is_of_keeper _ = false
 
 -- an outcome over these records is what is answered and what is held then. After an answer that isn't of the keeper the store has all records that are held
-pub record ComesTo {X : Type 0} (Answers : Result X Refusal → Type 0) (held now : Option (List (List ℕ))) (records : List Record) (new : Stored) (outcome : Outcome X) : Type 0 where
+pub record ComesTo {X R : Type 0} (Answers : Result X (Cause R) → Type 0) (held now : Option (List (List ℕ))) (records : List Record) (new : Stored) (outcome : Outcome R X) : Type 0 where
   pub answer : Answers outcome.result
   pub change : Change held now records new outcome.put
   pub still : is_of_keeper outcome.result ≡ false → new.fresh ≡ true
 
 -- a call over the records of the store, once it is read, under some choice of the keeper
-pub record CallBy {X : Type 0} (outcome : Choice → List Record → Outcome X) (Answers : Result X Refusal → Type 0) (held now : Option (List (List ℕ))) (old new : Stored) : Type 0 where
+pub record CallBy {X R : Type 0} (outcome : Choice → List Record → Outcome R X) (Answers : Result X (Cause R) → Type 0) (held now : Option (List (List ℕ))) (old new : Stored) : Type 0 where
   pub choice : Choice
   pub records : List Record
   -- a fresh store is not read
@@ -53,15 +51,15 @@ pub record CallBy {X : Type 0} (outcome : Choice → List Record → Outcome X) 
 
 -- ---- the put
 
--- where there is room for one more record
-abbrev pub with_room : {X : Type 0} → List Record → X → Result X Refusal
-with_room records x = unless (nat_le record_limit (length records)) (Beyond many_records) >>= λ _. Ok x
+-- where there is room for one more record, and else this refusal
+abbrev pub with_room : {X R : Type 0} → (full : R) → List Record → X → Result X R
+with_room full records x = unless (nat_le record_limit (length records)) full >>= λ _. Ok x
 
 -- the record of x is put, where there is room for it
-abbrev pub putting : {X : Type 0} → (X → Record) → List Record → X → Putting → Outcome X
-putting item records x p = or_refusal (with_room records x) (λ x. puts p (item x) x)
+abbrev pub putting : {X R : Type 0} → (full : R) → (X → Record) → List Record → X → Putting → Outcome R X
+putting full item records x p = or_refusal (with_room full records x) (λ x. puts p (item x) x)
 
 -- the record of x is put over the records of a fresh store, under some choice of the keeper
-pub record PutBy {X : Type 0} (item : X → Record) (Answers : Result X Refusal → Type 0) (held now : Option (List (List ℕ))) (old new : Stored) (x : X) : Type 0 where
+pub record PutBy {X R : Type 0} (full : R) (item : X → Record) (Answers : Result X (Cause R) → Type 0) (held now : Option (List (List ℕ))) (old new : Stored) (x : X) : Type 0 where
   pub choice : Putting
-  pub comes : ComesTo Answers held now old.records new (putting item old.records x choice)
+  pub comes : ComesTo Answers held now old.records new (putting full item old.records x choice)

@@ -7,9 +7,9 @@ ghost use Rattle.spec_exchange.specs.Calls as calls;
 ghost use Rattle.spec_exchange.specs.FirstFailed as exchange;
 ghost use Rattle.spec_exchange.specs.Jwe.{content_key, nonce};
 
+use context_records::{KeySet, OneKey};
 use http_message::Kind;
 use jwe_flat::{ContentKey, Suite};
-use context_records::{KeySet, OneKey};
 
 /// The keys of an open context fit its suite.
 pub fn keys_fit_suite()

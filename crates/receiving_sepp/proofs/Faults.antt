@@ -1,5 +1,5 @@
 -- The first fault of a block, as it is told.
-use Rattle.std.proofs.Common.{◌≡◌, ℕ, Option, Some, None, Err, refl}
+use Rattle.std.proofs.Common.{◌≡◌, ℕ, Option, Some, Err, refl}
 use Rattle.spec_documents.specs.Tree.{Tree}
 use Rattle.spec_messages.specs.Fault.{BlockFault, block_fault}
 use Rattle.block_forms.specs.Faults.{Tells, IsBeyond}
@@ -9,32 +9,28 @@ use Rattle.block_forms.specs.declared.fault.BlockWhy.{BlockWhy}
 use Rattle.block_forms.specs.declared.fault.BlockWhy.TheVariants as why
 use Rattle.spec_exchange.specs.Chain.{or_refused}
 use Rattle.spec_exchange.specs.Rebuilding.{read_block, no_block}
-use Rattle.spec_exchange.specs.Refusals.{Reconstruction}
+use Rattle.spec_exchange.specs.ReceivingRefusals.{Reconstruction}
+use Rattle.receiving_sepp.specs.Views.{fault_view}
 
-beyond_none : (l : LimitName) → IsBeyond l None → ⊥
-beyond_none Headers h = cc
-beyond_none Payload h = cc
-beyond_none Values h = cc
-beyond_none Block h = absurd h
-beyond_none Wire h = absurd h
-beyond_none Alter h = absurd h
-beyond_none Records h = absurd h
+limit_is : (l : LimitName) (fault : Option BlockFault) → IsBeyond l fault → fault ≡ Some (fault_view (why.Limit l))
+limit_is Headers fault h = h
+limit_is Payload fault h = h
+limit_is Values fault h = h
+limit_is Block fault h = absurd h
+limit_is Wire fault h = absurd h
+limit_is Alter fault h = absurd h
+limit_is Records fault h = absurd h
 
-tells_none : (w : BlockWhy) → Tells w None → ⊥
-tells_none (why.Member name) h = cc
-tells_none (why.Limit which) h = beyond_none which h
-tells_none (why.IePath k) h = cc
-tells_none (why.Overlap k) h = cc
-tells_none (why.BadHole place) h = cc
-tells_none (why.Twice n) h = cc
-tells_none (why.Missing n) h = cc
-tells_none why.Depth h = cc
+fault_is : (w : BlockWhy) (fault : Option BlockFault) → Tells w fault → fault ≡ Some (fault_view w)
+fault_is (why.Member name) fault h = h
+fault_is (why.Limit l) fault h = limit_is l fault h
+fault_is (why.IePath k) fault h = h
+fault_is (why.Overlap k) fault h = h
+fault_is (why.BadHole place) fault h = h
+fault_is (why.Twice n) fault h = h
+fault_is (why.Missing n) fault h = h
+fault_is why.Depth fault h = h
 
 -- where a fault is told, the block isn't read by it
-pub fault_told : (w : BlockWhy) (j : Tree) (n : ℕ) → Tells w (block_fault j n)
-    → (x : BlockFault) × Tells w (Some x) × (or_refused (λ why. Reconstruction (no_block why)) (read_block j n) ≡ Err (Reconstruction (no_block x)))
-fault_told w j n h = found (block_fault j n) refl h
-  where
-    found : (o : Option BlockFault) → block_fault j n ≡ o → Tells w o → (x : BlockFault) × Tells w (Some x) × (or_refused (λ why. Reconstruction (no_block why)) (read_block j n) ≡ Err (Reconstruction (no_block x)))
-    found None e h = absurd (tells_none w h)
-    found (Some x) e h = (x, h, rw e refl)
+pub fault_told : (w : BlockWhy) (j : Tree) (n : ℕ) → Tells w (block_fault j n) → or_refused (λ why. Reconstruction (no_block why)) (read_block j n) ≡ Err (Reconstruction (no_block (fault_view w)))
+fault_told w j n h = rw (fault_is w (block_fault j n) h) refl

@@ -1,6 +1,4 @@
-mod Rows
 mod Chain
-mod Causes
 mod Calls
 mod Counts
 mod Faults

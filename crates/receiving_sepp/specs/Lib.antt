@@ -1,3 +1,3 @@
+pub mod Views
 pub mod Refusing
-pub mod Stages
 pub mod Outcome

@@ -1,18 +1,21 @@
 -- What accepting a document comes to: the answer, and what is held after it.
 use Rattle.std.specs.Prelude.{◌≡◌, ℕ, List, Option, Result, Ok, Err}
 use Rattle.spec_documents.specs.Tree.{Tree}
+use Rattle.spec_documents.specs.Gives.{Tells}
 use Rattle.spec_records.specs.Records.{Record}
 use Rattle.http_message.specs.Reading.{kind_view, message_view}
 use Rattle.context_store.specs.Stores.{Stored}
 use Rattle.context_calls.specs.Changes.{Nothing, CallBy, PutBy, with_room}
-use Rattle.spec_exchange.specs.Refusals as spec
+use Rattle.spec_exchange.specs.ReceivingRefusals.{Refusal, NoRoom}
+use Rattle.spec_exchange.specs.Outside.{Cause}
 use Rattle.spec_exchange.specs.FirstFailed.{Delivery, first_failed}
 use Rattle.spec_exchange.specs.Calls.{delivered_record, accepted}
-use Rattle.receiving_sepp.specs.Refusing.{Tells}
+use Rattle.receiving_sepp.specs.Refusing.{told, told_cause}
+use Rattle.receiving_sepp.specs.declared.delivery.Delivered.{Delivered}
 use Rattle.receiving_sepp.specs.declared.checks.Checked.{Checked}
-use Rattle.receiving_sepp.specs.declared.refused.Delivered.{Delivered}
-use Rattle.receiving_sepp.specs.declared.refused.Refused.{Refused}
-use Rattle.receiving_sepp.specs.declared.refused.Refused.TheVariants as refused
+use Rattle.receiving_sepp.specs.declared.faults.CheckFault.{CheckFault}
+use Rattle.receiving_sepp.specs.declared.faults.AcceptFault.{AcceptFault}
+use Rattle.receiving_sepp.specs.declared.faults.AcceptFault.TheVariants as accepting
 
 -- the message that is delivered, with its id and kind
 pub record Shows (x : Delivered) (d : Delivery) : Type 0 where
@@ -21,13 +24,13 @@ pub record Shows (x : Delivered) (d : Delivery) : Type 0 where
   pub kind : kind_view x.kind ≡ d.kind
 
 -- the message is the one that is to be delivered, and a refusal the one that is wanted
-abbrev pub Answers : Result Delivered Refused → Result Delivery spec.Refusal → Type 0
+abbrev pub Answers : Result Delivered AcceptFault → Result Delivery (Cause Refusal) → Type 0
 Answers (Ok x) wanted = (d : Delivery) × (wanted ≡ Ok d) × Shows x d
-Answers (Err e) wanted = Tells e wanted
+Answers (Err e) wanted = Tells (told_cause e) wanted
 
 -- the document is accepted over the records of the store, once it is read, under some choice of the keeper
-abbrev pub Accepts : (held now : Option (List (List ℕ))) (old new : Stored) (node : List ℕ) → Tree → Result Delivered Refused → Type 0
-Accepts held now old new node t (Err refused.NoMemory) = Nothing held now old new
+abbrev pub Accepts : (held now : Option (List (List ℕ))) (old new : Stored) (node : List ℕ) → Tree → Result Delivered AcceptFault → Type 0
+Accepts held now old new node t (Err accepting.NoMemory) = Nothing held now old new
 Accepts held now old new node t result = CallBy (λ f records. accepted f records node t) (Answers result) held now old new
 
 -- ---- the parts of a call
@@ -43,11 +46,11 @@ delivery_view node c = record {
 }
 
 -- the first check that fails, but for the limit on records
-abbrev pub ChecksOut : List Record → List ℕ → Tree → Result Checked Refused → Type 0
-ChecksOut records node t (Ok c) = first_failed records node t ≡ with_room records (delivery_view node c)
-ChecksOut records node t (Err e) = Tells e (first_failed records node t)
+abbrev pub ChecksOut : List Record → List ℕ → Tree → Result Checked CheckFault → Type 0
+ChecksOut records node t (Ok c) = first_failed records node t ≡ with_room NoRoom records (delivery_view node c)
+ChecksOut records node t (Err e) = Tells (told e) (first_failed records node t)
 
 -- the record of a delivery is put over the records of a fresh store, and then it is delivered
-abbrev pub Delivers : (held now : Option (List (List ℕ))) (old new : Stored) → Delivery → Result Delivered Refused → Type 0
-Delivers held now old new d (Err refused.NoMemory) = Nothing held now old new
-Delivers held now old new d result = PutBy delivered_record (Answers result) held now old new d
+abbrev pub Delivers : (held now : Option (List (List ℕ))) (old new : Stored) → Delivery → Result Delivered AcceptFault → Type 0
+Delivers held now old new d (Err accepting.NoMemory) = Nothing held now old new
+Delivers held now old new d result = PutBy NoRoom delivered_record (Answers result) held now old new d

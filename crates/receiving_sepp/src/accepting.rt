@@ -6,8 +6,8 @@ ghost use Rattle.spec_exchange.specs.FirstFailed.{first_failed};
 ghost use Rattle.receiving_sepp.specs.Outcome.{Accepts};
 
 use crate::checks::check;
-use crate::delivery::deliver;
-use crate::refused::{Delivered, Refused};
+use crate::delivery::{Delivered, deliver};
+use crate::faults::AcceptFault;
 use context_store::Store;
 use n32_outside::Keeper;
 use n32_values::{Doc, Text};
@@ -26,13 +26,13 @@ pub fn accept<K: Keeper>(
     keeper: &mut K,
     node: &Text,
     document: &Doc,
-) -> Result<Delivered, Refused>
+) -> Result<Delivered, AcceptFault>
     requires { IsConsistent (K.held keeper.old) store.old }
     ensures accepts { Accepts (K.held keeper.old) (K.held keeper.new) store.old store.new node.now document.now result }
     ensures consistent { IsConsistent (K.held keeper.new) store.new }
     ensures later { K.faults keeper.old ≤ K.faults keeper.new }
-    ensures failed { IsErrOf result Refused.Keeper → Rose (K.faults keeper.old) (K.faults keeper.new) }
-    ensures last { IsErrOf result Refused.Keeper → store.old.fresh ≡ true → IsOk (first_failed store.old.records node.now document.now) }
+    ensures failed { IsErrOf result AcceptFault.Keeper → Rose (K.faults keeper.old) (K.faults keeper.new) }
+    ensures last { IsErrOf result AcceptFault.Keeper → store.old.fresh ≡ true → IsOk (first_failed store.old.records node.now document.now) }
 {
     store.refresh(alloc, keeper)?;
     let checked = check(alloc, store, node, document)?;

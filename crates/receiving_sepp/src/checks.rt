@@ -3,10 +3,11 @@ ghost use Rattle.std.specs.Prelude.{IfOk, IsTrue};
 ghost use Rattle.spec_documents.specs.Text.{is_node_name};
 ghost use Rattle.receiving_sepp.specs.Outcome.{ChecksOut};
 
-use crate::opening::{Opened, open_document};
-use crate::rebuilding::{Rebuilt, rebuild_message};
-use crate::received::{Received, check_built, read_received};
-use crate::refused::Refused;
+use crate::faults::CheckFault;
+use crate::opening::{KeyedContext, check_first, keyed_context, open};
+use crate::rebuilding::{check_sealed, rebuild_message};
+use crate::received::{Received, read_received};
+use context_calls::{mapping_for, receive_key};
 use context_store::Store;
 use http_message::{Kind, Message};
 use n32_values::{Doc, Hex64, Text};
@@ -24,32 +25,35 @@ pub(crate) struct Checked {
 }
 
 /// The first check that fails, in the order of `Refused`, or what is to be delivered.
+#[tactic(auto, unfolding(spec_exchange::specs::Chain::chains))]
 pub(crate) fn check(
     alloc: Global,
     store: &Store,
     node: &Text,
     document: &Doc,
-) -> Result<Checked, Refused>
+) -> Result<Checked, CheckFault>
     ensures checks { ChecksOut store.now.records node.now document.now result }
     ensures named { IfOk result (λ _. IsTrue (is_node_name node.now)) }
 {
-    let received = read_received(alloc, document)?;
-    check_built(document, &received)?;
-    let Opened { context, plain } = open_document(alloc, store, node, &received)?;
     let Received {
         wire,
         context: id,
         message,
-    } = received;
-    let WireDoc { block, kind, .. } = wire;
-    let Rebuilt { content, mapping } = rebuild_message(
-        alloc,
-        &context.policy,
+    } = read_received(alloc, document)?;
+    let WireDoc {
+        jwe,
         block,
-        plain.as_slice(),
-    )?;
+        kind,
+        ..
+    } = wire;
+    let KeyedContext { context, keys } = keyed_context(store, node, id)?;
+    let plain = open(alloc, &jwe, receive_key(context.suite, keys, kind))?;
+    check_first(store, node, id, kind, message)?;
+    let rebuilt = rebuild_message(alloc, block, plain.as_slice())?;
+    let mapping = mapping_for(&context.policy, &rebuilt.content);
+    check_sealed(alloc, &context.policy, mapping, &rebuilt)?;
     Ok(Checked {
-        content,
+        content: rebuilt.content,
         context: id,
         kind,
         message,

@@ -7,12 +7,25 @@ ghost use Rattle.spec_records.specs.Records.{record_limit};
 ghost use Rattle.receiving_sepp.specs.Outcome.{Delivers, delivery_view};
 
 use crate::checks::Checked;
-use crate::refused::{Delivered, Refused};
-use context_store::{AddFault, Store};
-use n32_outside::Keeper;
-use n32_values::Text;
+use crate::faults::AcceptFault;
+use crate::refused::Refused;
 use context_records::Record;
+use context_store::{AddFault, Store};
+use http_message::{Kind, Message};
+use n32_outside::Keeper;
+use n32_values::{Hex64, Text};
 use std::alloc::Global;
+
+/// A message that is delivered.
+#[derive(Drop)]
+pub struct Delivered {
+    /// The message, with all its values.
+    pub message: Message,
+    /// Its message id.
+    pub id: Hex64,
+    /// Whether it is a request or a response.
+    pub kind: Kind,
+}
 
 /// Puts the record of a checked message, and delivers it.
 pub(crate) fn deliver<K: Keeper>(
@@ -21,15 +34,15 @@ pub(crate) fn deliver<K: Keeper>(
     keeper: &mut K,
     node: &Text,
     checked: Checked,
-) -> Result<Delivered, Refused>
+) -> Result<Delivered, AcceptFault>
     requires consistent { IsConsistent (K.held keeper.old) store.old }
     requires fresh { store.old.fresh ≡ true }
     requires named { IsTrue (is_node_name node.now) }
     ensures delivers { Delivers (K.held keeper.old) (K.held keeper.new) store.old store.new (delivery_view node.now checked) result }
     ensures consistent { IsConsistent (K.held keeper.new) store.new }
     ensures later { K.faults keeper.old ≤ K.faults keeper.new }
-    ensures failed { IsErrOf result Refused.Keeper → Rose (K.faults keeper.old) (K.faults keeper.new) }
-    ensures room { IsErrOf result Refused.Keeper → length store.old.records < record_limit }
+    ensures failed { IsErrOf result AcceptFault.Keeper → Rose (K.faults keeper.old) (K.faults keeper.new) }
+    ensures room { IsErrOf result AcceptFault.Keeper → length store.old.records < record_limit }
 {
     let item = Record::Delivered {
         node: node.copy(alloc)?,
@@ -44,8 +57,8 @@ pub(crate) fn deliver<K: Keeper>(
             id: checked.message,
             kind: checked.kind,
         }),
-        Err(AddFault::Limit) => Err(Refused::Limit),
-        Err(AddFault::Keeper) => Err(Refused::Keeper),
-        Err(AddFault::NoMemory) => Err(Refused::NoMemory),
+        Err(AddFault::Limit) => Err(AcceptFault::Refused(Refused::Limit)),
+        Err(AddFault::Keeper) => Err(AcceptFault::Keeper),
+        Err(AddFault::NoMemory) => Err(AcceptFault::NoMemory),
     }
 }

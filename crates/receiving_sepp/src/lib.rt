@@ -5,13 +5,17 @@
 mod accepting;
 mod checks;
 mod delivery;
+mod detail;
+mod faults;
 mod opening;
 mod rebuilding;
 mod received;
 mod refused;
 
 pub use accepting::accept;
-pub use refused::{Delivered, RebuildWhy, Refused};
+pub use delivery::Delivered;
+pub use faults::AcceptFault;
+pub use refused::{RebuildWhy, Refused};
 
 #[cfg(test)]
 mod tests;

@@ -1,18 +1,20 @@
 // The message of an opened document.
 ghost use Rattle.std.specs.Prelude.{◌≤◌, IfOk, length};
+ghost use Rattle.spec_documents.specs.Gives.{Gives};
 ghost use Rattle.spec_messages.specs.Message.{wanted};
 ghost use Rattle.spec_messages.specs.Fault.{block_fault as fault_of};
 ghost use Rattle.http_message.specs.Reading.{message_view};
 ghost use Rattle.block_forms.specs.Faults.{IsFault};
-ghost use Rattle.spec_exchange.specs.Chain.{none_of, or_refused};
+ghost use Rattle.spec_exchange.specs.Chain.{or_refused};
+ghost use Rattle.spec_exchange.specs.FirstFailed.{is_sealed, rebuilt};
 ghost use Rattle.spec_exchange.specs.Rebuilding as spec;
-ghost use Rattle.spec_exchange.specs.Refusals as refusals;
-ghost use Rattle.receiving_sepp.specs.Refusing.{Gives};
-ghost use Rattle.receiving_sepp.specs.Stages.{rebuilt_of, mapped_view};
+ghost use Rattle.spec_exchange.specs.ReceivingRefusals as refusals;
+ghost use Rattle.receiving_sepp.specs.Refusing.{told};
+ghost use Rattle.receiving_sepp.specs.Views.{rebuilt_view};
 
+use crate::faults::CheckFault;
 use crate::refused::{RebuildWhy, Refused};
 use block_forms::{BlockWhy, block_fault};
-use context_calls::mapping_for;
 use http_message::Message;
 use message_rebuilding::{RebuildFault, clear_message, fill_message, values_are_few};
 use n32_values::{Doc, NoMemory, NodeList};
@@ -22,21 +24,23 @@ use sealed_values::{ValuesRead, read_values};
 use sealing_check::first_in_clear;
 use std::alloc::Global;
 
-// A message with all its values, and the mapping that it goes by.
+// A message with its holes, and with all its values.
 #[derive(Drop)]
 pub(crate) struct Rebuilt {
+    pub(crate) holed: Message,
     pub(crate) content: Message,
-    pub(crate) mapping: Option<u32>,
 }
 
 // The values of a plaintext.
-fn values_of(alloc: Global, plain: &[u8]) -> Result<NodeList, Refused>
-    ensures { Gives (λ vs. vs) result (wanted (spec.values_of plain.now) (refusals.Reconstruction spec.no_values)) }
+fn values_of(alloc: Global, plain: &[u8]) -> Result<NodeList, CheckFault>
+    ensures { Gives told (λ vs. vs) result (wanted (spec.values_of plain.now) (refusals.Reconstruction spec.no_values)) }
 {
     match read_values(alloc, plain) {
         Ok(values) => Ok(values),
-        Err(ValuesRead::NoList) => Err(Refused::Reconstruction(RebuildWhy::Values)),
-        Err(ValuesRead::NoMemory) => Err(Refused::NoMemory),
+        Err(ValuesRead::NoList) => Err(CheckFault::Refused(Refused::Reconstruction(
+            RebuildWhy::Values,
+        ))),
+        Err(ValuesRead::NoMemory) => Err(CheckFault::NoMemory),
     }
 }
 
@@ -54,13 +58,13 @@ fn fault_with(alloc: Global, block: &Doc, count: usize) -> Result<Option<BlockWh
 }
 
 // The message with holes that a block with the values stands for.
-fn holed_message(alloc: Global, block: Doc, values: &NodeList) -> Result<Message, Refused>
-    ensures message { Gives message_view result (or_refused (λ why. refusals.Reconstruction (spec.no_block why)) (spec.read_block block (length values.now))) }
+fn holed_message(alloc: Global, block: Doc, values: &NodeList) -> Result<Message, CheckFault>
+    ensures message { Gives told message_view result (or_refused (λ why. refusals.Reconstruction (spec.no_block why)) (spec.read_block block (length values.now))) }
     ensures few { IfOk result (λ _. length values.now ≤ 1024) }
 {
     values_are_few();
     if let Some(why) = fault_with(alloc, &block, values.len())? {
-        return Err(Refused::Reconstruction(RebuildWhy::Block(why)));
+        return Err(CheckFault::Refused(Refused::Reconstruction(RebuildWhy::Block(why))));
     }
     let block = Block::of_doc(block, values.len() as u32);
     let message = clear_message(alloc, &block)?;
@@ -68,49 +72,48 @@ fn holed_message(alloc: Global, block: Doc, values: &NodeList) -> Result<Message
 }
 
 // The message with its holes filled.
-fn filled_message(alloc: Global, values: &NodeList, holed: &Message) -> Result<Message, Refused>
+fn filled_message(alloc: Global, values: &NodeList, holed: &Message) -> Result<Message, CheckFault>
     requires { length values.now ≤ 1024 }
-    ensures { Gives message_view result (or_refused (λ why. refusals.Reconstruction (spec.no_fill why)) (spec.filled_with values.now (message_view holed.now))) }
+    ensures { Gives told message_view result (or_refused (λ why. refusals.Reconstruction (spec.no_fill why)) (spec.filled_with values.now (message_view holed.now))) }
 {
     match fill_message(alloc, holed, values) {
         Ok(message) => Ok(message),
-        Err(RebuildFault::NotText(n)) => Err(Refused::Reconstruction(RebuildWhy::NotText(n))),
-        Err(RebuildFault::Depth) => Err(Refused::Reconstruction(RebuildWhy::Depth)),
-        Err(RebuildFault::NoMemory) => Err(Refused::NoMemory),
+        Err(RebuildFault::NotText(n)) => {
+            Err(CheckFault::Refused(Refused::Reconstruction(RebuildWhy::NotText(n))))
+        }
+        Err(RebuildFault::Depth) => {
+            Err(CheckFault::Refused(Refused::Reconstruction(RebuildWhy::Depth)))
+        }
+        Err(RebuildFault::NoMemory) => Err(CheckFault::NoMemory),
     }
 }
 
-// Refuses a message that has in clear what the policy makes secret.
-fn check_sealed(
-    alloc: Global,
-    policy: &Policy,
-    mapping: Option<u32>,
-    holed: &Message,
-    content: &Message,
-) -> Result<(), Refused>
-    ensures { Gives (λ u. u) result (none_of refusals.InClear (spec.in_clear policy.now mapping (message_view holed.now) (message_view content.now))) }
-{
-    match first_in_clear(alloc, policy, mapping, holed, content)? {
-        Some(address) => Err(Refused::Policy(address)),
-        None => Ok(()),
-    }
-}
-
-/// The message of a block and the plaintext of its values, which has in clear nothing that the policy makes
-/// secret.
+/// The message of a block and the plaintext of its values.
 #[tactic(auto, unfolding(spec_exchange::specs::Chain::chains))]
 pub(crate) fn rebuild_message(
     alloc: Global,
-    policy: &Policy,
     block: Doc,
     plain: &[u8],
-) -> Result<Rebuilt, Refused>
-    ensures { Gives mapped_view result (rebuilt_of policy.now block plain.now) }
+) -> Result<Rebuilt, CheckFault>
+    ensures { Gives told rebuilt_view result (rebuilt block plain.now) }
 {
     let values = values_of(alloc, plain)?;
     let holed = holed_message(alloc, block, &values)?;
     let content = filled_message(alloc, &values, &holed)?;
-    let mapping = mapping_for(policy, &content);
-    check_sealed(alloc, policy, mapping, &holed, &content)?;
-    Ok(Rebuilt { content, mapping })
+    Ok(Rebuilt { holed, content })
+}
+
+/// Refuses a message that has in clear what the policy makes secret.
+pub(crate) fn check_sealed(
+    alloc: Global,
+    policy: &Policy,
+    mapping: Option<u32>,
+    rebuilt: &Rebuilt,
+) -> Result<(), CheckFault>
+    ensures { Gives told (λ u. u) result (is_sealed policy.now mapping (rebuilt_view rebuilt.now)) }
+{
+    match first_in_clear(alloc, policy, mapping, &rebuilt.holed, &rebuilt.content)? {
+        Some(address) => Err(CheckFault::Refused(Refused::Policy(address))),
+        None => Ok(()),
+    }
 }

@@ -1,13 +1,16 @@
 // The form of a document, and what is read yet.
 ghost use Rattle.std.specs.Prelude.{◌≡◌, Ok, Err, IfOk, IfErr, Some, None, codes};
+ghost use Rattle.spec_documents.specs.Gives.{Gives, Tells};
 ghost use Rattle.spec_messages.specs.Message.{Kind as any_kind};
 ghost use Rattle.spec_exchange.specs.Chain.{unless, or_refused};
-ghost use Rattle.spec_exchange.specs.FirstFailed.{is_later};
+ghost use Rattle.spec_exchange.specs.FirstFailed.{formed, is_later};
 ghost use Rattle.spec_exchange.specs.Received.{received};
-ghost use Rattle.spec_exchange.specs.Refusals as spec;
+ghost use Rattle.spec_exchange.specs.ReceivingRefusals as spec;
 ghost use Rattle.prins_document.specs.Parts.{IsReceived, part_name};
-ghost use Rattle.receiving_sepp.specs.Refusing.{Gives, Tells, received_view};
+ghost use Rattle.receiving_sepp.specs.Refusing.{told};
+ghost use Rattle.receiving_sepp.specs.Views.{received_view};
 
+use crate::faults::CheckFault;
 use crate::refused::Refused;
 use http_message::Kind;
 use jwe_flat::JweMember;
@@ -52,28 +55,30 @@ fn out_of_form(alloc: Global, member: WireMember) -> Result<Text, NoMemory>
     Text::from_text(alloc, word_of(member))
 }
 
-fn read_wire(alloc: Global, document: &Doc) -> Result<WireDoc, Refused>
+fn read_wire(alloc: Global, document: &Doc) -> Result<WireDoc, CheckFault>
     ensures ok { IfOk result (IsReceived document.now) }
-    ensures refused { IfErr result (λ e. Tells e (or_refused spec.Form (received document.now))) }
+    ensures refused { IfErr result (λ e. Tells (told e) (or_refused spec.Form (received document.now))) }
 {
     documents_are_received();
     match read_wire_doc(alloc, document) {
         Ok(wire) => Ok(wire),
-        Err(WireRead::Form(member)) => Err(Refused::Form(out_of_form(alloc, member)?)),
-        Err(WireRead::NoMemory) => Err(Refused::NoMemory),
+        Err(WireRead::Form(member)) => {
+            Err(CheckFault::Refused(Refused::Form(out_of_form(alloc, member)?)))
+        }
+        Err(WireRead::NoMemory) => Err(CheckFault::NoMemory),
     }
 }
 
-/// The parts of a document, or the first member that has not its form.
-pub(crate) fn read_received(alloc: Global, document: &Doc) -> Result<Received, Refused>
-    ensures { Gives (received_view document.now) result (or_refused spec.Form (received document.now)) }
+// The parts of a document, or the first member that has not its form.
+fn read_parts(alloc: Global, document: &Doc) -> Result<Received, CheckFault>
+    ensures { Gives told (received_view document.now) result (or_refused spec.Form (received document.now)) }
 {
     let wire = read_wire(alloc, document)?;
     let Some(context) = read_hex64(wire.meta.context.as_str()) else {
-        return Err(Refused::Form(out_of_form(alloc, WireMember::Block)?));
+        return Err(CheckFault::Refused(Refused::Form(out_of_form(alloc, WireMember::Block)?)));
     };
     let Some(message) = read_hex64(wire.meta.message.as_str()) else {
-        return Err(Refused::Form(out_of_form(alloc, WireMember::Block)?));
+        return Err(CheckFault::Refused(Refused::Form(out_of_form(alloc, WireMember::Block)?)));
     };
     Ok(Received {
         wire,
@@ -92,12 +97,22 @@ fn is_later(document: &Doc, received: &Received) -> bool
     more || matches!(received.wire.kind, Kind::Response)
 }
 
-/// Refuses what isn't read yet.
-pub(crate) fn check_built(document: &Doc, received: &Received) -> Result<(), Refused>
-    ensures { Gives (λ u. u) result (unless (is_later (received_view document.now received.now)) spec.NotBuilt) }
+// Refuses what isn't read yet.
+fn check_built(document: &Doc, received: &Received) -> Result<(), CheckFault>
+    ensures { Gives told (λ u. u) result (unless (is_later (received_view document.now received.now)) spec.NotBuilt) }
 {
     if is_later(document, received) {
-        return Err(Refused::NotBuilt);
+        return Err(CheckFault::Refused(Refused::NotBuilt));
     }
     Ok(())
+}
+
+/// A document of the form, and of what is read yet.
+#[tactic(auto, unfolding(spec_exchange::specs::Chain::chains))]
+pub(crate) fn read_received(alloc: Global, document: &Doc) -> Result<Received, CheckFault>
+    ensures { Gives told (received_view document.now) result (formed document.now) }
+{
+    let received = read_parts(alloc, document)?;
+    check_built(document, &received)?;
+    Ok(received)
 }

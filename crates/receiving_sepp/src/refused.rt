@@ -1,21 +1,12 @@
-// What a receiver answers.
-use block_forms::BlockWhy;
-use context_store::OpenFault;
-use http_message::{Kind, Message};
-use jwe_flat::CipherWhy;
-use n32_values::{Hex64, NoMemory, Text};
-use policy_tables::Address;
+// Why a document isn't delivered.
+ghost use Rattle.std.specs.Prelude.{◌≡◌};
+ghost use Rattle.spec_exchange.specs.ReceivingRefusals as spec;
+ghost use Rattle.receiving_sepp.specs.Views.{refused_view};
 
-/// A message that is delivered.
-#[derive(Drop)]
-pub struct Delivered {
-    /// The message, with all its values.
-    pub message: Message,
-    /// Its message id.
-    pub id: Hex64,
-    /// Whether it is a request or a response.
-    pub kind: Kind,
-}
+use block_forms::BlockWhy;
+use jwe_flat::CipherWhy;
+use n32_values::Text;
+use policy_tables::Address;
 
 /// Why an opened document has no message. The first that holds counts, in this order.
 #[derive(Drop)]
@@ -31,8 +22,7 @@ pub enum RebuildWhy {
     Depth,
 }
 
-/// Why a document isn't delivered. The first that holds counts, in this order but for the last three, which
-/// come from the store.
+/// Why a document isn't delivered. The first that holds counts, in this order.
 #[derive(Drop)]
 pub enum Refused {
     /// The member of this name has not its form; `document` where the whole is no object.
@@ -55,36 +45,42 @@ pub enum Refused {
     Policy(Address),
     /// 1,048,576 records are held.
     Limit,
-    /// The keeper failed, in reading the records or in keeping the last.
-    Keeper,
-    /// The held record of this number is none, or one too many.
-    Journal(u64),
-    /// Memory was refused.
-    NoMemory,
 }
 
-impl From<NoMemory> for Refused {
-    ghost use Rattle.std.specs.Prelude.{◌≡◌};
-    ghost use Rattle.receiving_sepp.specs.declared.refused.Refused.TheVariants.{NoMemory as refused_memory};
-
-    ghost from_gives = { λ _ e. e ≡ refused_memory };
-
-    fn from(_refused: NoMemory) -> Refused {
-        Refused::NoMemory
+impl Refused {
+    /// The number that stands for the refusal in an answer.
+    pub fn number(&self) -> u64
+        ensures { result ≡ (spec.telling (refused_view self.now)).number }
+    {
+        match self {
+            Refused::Form(_) => 20,
+            Refused::NotBuilt => 47,
+            Refused::ContextNotFound => 21,
+            Refused::NoKeys => 22,
+            Refused::Cipher(_) => 23,
+            Refused::Integrity => 24,
+            Refused::Replay(_) => 25,
+            Refused::Reconstruction(_) => 26,
+            Refused::Policy(_) => 27,
+            Refused::Limit => 7,
+        }
     }
-}
 
-impl From<OpenFault> for Refused {
-    ghost use Rattle.std.specs.Prelude.{◌≡◌};
-    ghost use Rattle.receiving_sepp.specs.Refusing.{refused_of};
-
-    ghost from_gives = { λ fault e. e ≡ refused_of fault };
-
-    fn from(fault: OpenFault) -> Refused {
-        match fault {
-            OpenFault::Journal(number) => Refused::Journal(number),
-            OpenFault::Keeper => Refused::Keeper,
-            OpenFault::NoMemory => Refused::NoMemory,
+    /// The refusal's name in an answer.
+    pub fn name(&self) -> &'static str
+        ensures { result.now ≡ (spec.telling (refused_view self.now)).name }
+    {
+        match self {
+            Refused::Form(_) => "FORM",
+            Refused::NotBuilt => "NOT_BUILT",
+            Refused::ContextNotFound => "CONTEXT_NOT_FOUND",
+            Refused::NoKeys => "NO_KEYS",
+            Refused::Cipher(_) => "CIPHER",
+            Refused::Integrity => "INTEGRITY",
+            Refused::Replay(_) => "REPLAY",
+            Refused::Reconstruction(_) => "RECONSTRUCTION",
+            Refused::Policy(_) => "POLICY",
+            Refused::Limit => "LIMIT",
         }
     }
 }

@@ -1,6 +1,6 @@
 ghost use Rattle.context_store.specs.Stores.{IsConsistent};
 
-use crate::{Delivered, RebuildWhy, Refused, accept};
+use crate::{AcceptFault, Delivered, RebuildWhy, Refused, accept};
 use aes_block::Key128;
 use block_forms::BlockWhy;
 use context_store::{Store, new_store};
@@ -141,9 +141,15 @@ fn refusal_text(alloc: Global, why: &Refused) -> Result<String, Fail> {
         Refused::Reconstruction(why) => rebuild_text(alloc, why),
         Refused::Policy(address) => policy_text(alloc, address),
         Refused::Limit => word(alloc, "LIMIT"),
-        Refused::Keeper => word(alloc, "KEEPER"),
-        Refused::Journal(number) => numbered(alloc, "JOURNAL", *number),
-        Refused::NoMemory => word(alloc, "NO_MEMORY"),
+    }
+}
+
+fn fault_text(alloc: Global, fault: &AcceptFault) -> Result<String, Fail> {
+    match fault {
+        AcceptFault::Refused(why) => refusal_text(alloc, why),
+        AcceptFault::Journal(number) => numbered(alloc, "JOURNAL", *number),
+        AcceptFault::Keeper => word(alloc, "KEEPER"),
+        AcceptFault::NoMemory => word(alloc, "NO_MEMORY"),
     }
 }
 
@@ -160,7 +166,7 @@ fn answer<K: Keeper>(
     let node = Text::from_text(alloc, "B")?;
     match accept(alloc, store, keeper, &node, document) {
         Ok(delivered) => message_text(alloc, &delivered),
-        Err(why) => refusal_text(alloc, &why),
+        Err(fault) => fault_text(alloc, &fault),
     }
 }
 

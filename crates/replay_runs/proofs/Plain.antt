@@ -4,7 +4,7 @@ use Rattle.std.specs.Prelude.{count_by, MatchBool}
 use Rattle.std.proofs.lemmas.List.Sums.{sum_by-cons}
 use Rattle.n32_outside.specs.Causes.{Rose, RoseBy}
 use Rattle.spec_exchange.specs.Outside.{no_fault}
-use Rattle.spec_exchange.specs.Refusals as exchange
+use Rattle.spec_exchange.specs.Outside as outside
 use Rattle.script_loop.specs.Lines.{is_blank}
 use Rattle.spec_script.specs.Events.{line_event}
 use Rattle.spec_script.specs.Refusals as spec
@@ -75,27 +75,14 @@ plain_answered s n (line ∷ lines) =
 
 -- ---- no other run is without a fault
 
-call_outside : (e : exchange.Refusal) → is_keeper_refusal (spec.OfCall e) ≡ false → is_journal_refusal (spec.OfCall e) ≡ false → is_outside_refusal (spec.OfCall e) ≡ false
-call_outside exchange.Keeper k j = k
-call_outside (exchange.Journal number) k j = j
-call_outside (exchange.Beyond limit) k j = refl
-call_outside exchange.ContextNotFound k j = refl
-call_outside exchange.NoKeys k j = refl
-call_outside exchange.NoRequest k j = refl
-call_outside exchange.Answered k j = refl
-call_outside exchange.SeqSpent k j = refl
-call_outside (exchange.Form member) k j = refl
-call_outside exchange.NotBuilt k j = refl
-call_outside exchange.NoContext k j = refl
-call_outside exchange.NoReceiveKeys k j = refl
-call_outside (exchange.Cipher why) k j = refl
-call_outside exchange.Integrity k j = refl
-call_outside (exchange.Replay number) k j = refl
-call_outside (exchange.Reconstruction why) k j = refl
-call_outside (exchange.InClear address) k j = refl
-
 refusal_outside : (e : spec.Refusal) → is_keeper_refusal e ≡ false → is_journal_refusal e ≡ false → is_outside_refusal e ≡ false
-refusal_outside (spec.OfCall e) k j = call_outside e k j
+refusal_outside (spec.OfOutside outside.Keeper) k j = k
+refusal_outside (spec.OfOutside (outside.Journal number)) k j = j
+refusal_outside (spec.OfSending refusal) k j = refl
+refusal_outside (spec.OfReceiving refusal) k j = refl
+refusal_outside (spec.Beyond limit) k j = refl
+refusal_outside spec.ContextNotFound k j = refl
+refusal_outside spec.NotBuilt k j = refl
 refusal_outside spec.Syntax k j = refl
 refusal_outside spec.OtherNumber k j = refl
 refusal_outside (spec.BadEvent member) k j = refl

@@ -7,7 +7,7 @@ use Rattle.script_loop.specs.Lines.{is_blank}
 use Rattle.script_loop.specs.Outputs.{Gives, Outputs}
 use Rattle.spec_records.specs.Records.{Record, record_limit}
 use Rattle.spec_exchange.specs.Outside.{with_put}
-use Rattle.spec_exchange.specs.Refusals as exchange
+use Rattle.spec_exchange.specs.Outside as outside
 use Rattle.spec_script.specs.Refusals as spec
 use Rattle.spec_script.specs.Steps.{State, Answer, Fine, OnWire, Sends, Delivers, Refuses, after, line_step}
 use Rattle.spec_script.specs.Answers.{answer_text}
@@ -37,27 +37,14 @@ pub record Went {M : Type 0} (held : M → Option (List (List ℕ))) (faults : M
 
 -- ---- no bad record is named
 
-call_sound : (e : exchange.Refusal) → ((k : ℕ) → e ≡ exchange.Journal k → ⊥) → is_journal_refusal (spec.OfCall e) ≡ false
-call_sound (exchange.Journal number) none = absurd (none number refl)
-call_sound exchange.Keeper none = refl
-call_sound (exchange.Beyond limit) none = refl
-call_sound exchange.ContextNotFound none = refl
-call_sound exchange.NoKeys none = refl
-call_sound exchange.NoRequest none = refl
-call_sound exchange.Answered none = refl
-call_sound exchange.SeqSpent none = refl
-call_sound (exchange.Form member) none = refl
-call_sound exchange.NotBuilt none = refl
-call_sound exchange.NoContext none = refl
-call_sound exchange.NoReceiveKeys none = refl
-call_sound (exchange.Cipher why) none = refl
-call_sound exchange.Integrity none = refl
-call_sound (exchange.Replay number) none = refl
-call_sound (exchange.Reconstruction why) none = refl
-call_sound (exchange.InClear address) none = refl
-
-answer_sound : (a : Answer) → ((k : ℕ) → a ≡ Refuses (spec.OfCall (exchange.Journal k)) → ⊥) → has_refusal is_journal_refusal a ≡ false
-answer_sound (Refuses (spec.OfCall e)) none = call_sound e λ k same. none k (ap (λ (d : exchange.Refusal). Refuses (spec.OfCall d)) same)
+answer_sound : (a : Answer) → ((k : ℕ) → a ≡ Refuses (spec.OfOutside (outside.Journal k)) → ⊥) → has_refusal is_journal_refusal a ≡ false
+answer_sound (Refuses (spec.OfOutside (outside.Journal number))) none = absurd (none number refl)
+answer_sound (Refuses (spec.OfOutside outside.Keeper)) none = refl
+answer_sound (Refuses (spec.OfSending refusal)) none = refl
+answer_sound (Refuses (spec.OfReceiving refusal)) none = refl
+answer_sound (Refuses (spec.Beyond limit)) none = refl
+answer_sound (Refuses spec.ContextNotFound) none = refl
+answer_sound (Refuses spec.NotBuilt) none = refl
 answer_sound (Refuses spec.Syntax) none = refl
 answer_sound (Refuses spec.OtherNumber) none = refl
 answer_sound (Refuses (spec.BadEvent member)) none = refl

@@ -11,11 +11,10 @@ use Rattle.http_message.specs.Stage.{is_built}
 use Rattle.reformat_blocks.specs.Splitting.{Parts, splitting}
 use Rattle.block_forms.specs.declared.fault.LimitName.{LimitName}
 use Rattle.script_loop.specs.Lines.{lines_of, is_blank}
-use Rattle.spec_exchange.specs.Refusals.{NotBuilt, Beyond}
-use Rattle.spec_script.specs.Refusals.{Refusal, BadMessage, DeepBody, OfCall}
+use Rattle.spec_script.specs.Refusals.{Refusal, Beyond, BadMessage, DeepBody, NotBuilt}
 use Rattle.spec_script.specs.LineTree.{line_tree}
 use Rattle.spec_script.specs.Answers.{refusal_tree}
-use Rattle.script_answers.specs.View.{limit_view}
+use Rattle.sending_sepp.specs.Sending.{limit_view}
 
 -- a message whose body nests at most 64 deep
 abbrev pub shallow_message : Result Message spec.Member → Result Message Refusal
@@ -24,7 +23,7 @@ shallow_message (Err k) = Err (BadMessage k)
 
 -- the message that a document is of, among those that are answered yet
 abbrev pub built_message : Tree → Result Message Refusal
-built_message t = if is_built t then shallow_message (message_of t) else Err (OfCall NotBuilt)
+built_message t = if is_built t then shallow_message (message_of t) else Err NotBuilt
 
 -- the block is of no context and no message, and names no intermediary
 abbrev pub no_meta : Meta
@@ -32,7 +31,7 @@ no_meta = record { context = codes "0000000000000000"; message = codes "00000000
 
 abbrev pub or_limit_refusal : Result Parts LimitName → Result Parts Refusal
 or_limit_refusal (Ok parts) = Ok parts
-or_limit_refusal (Err limit) = Err (OfCall (Beyond (limit_view limit)))
+or_limit_refusal (Err limit) = Err (Beyond (limit_view limit))
 
 -- the block and the values of a message under the empty policy
 abbrev pub plain_parts : Message → Result Parts Refusal

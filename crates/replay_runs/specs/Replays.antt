@@ -5,8 +5,8 @@ use Rattle.n32_outside.specs.Causes.{Rose, RoseBy}
 use Rattle.script_loop.specs.Limits.{script_limit}
 use Rattle.script_loop.specs.Lines.{lines_of, ended_lines, IsFirstLong, IsWithin, IsTooLarge}
 use Rattle.spec_records.specs.Records.{Record, record_limit}
-use Rattle.spec_exchange.specs.Refusals.{Journal}
-use Rattle.spec_script.specs.Refusals.{Refusal, OfCall}
+use Rattle.spec_exchange.specs.Outside.{Journal}
+use Rattle.spec_script.specs.Refusals.{Refusal, OfOutside}
 use Rattle.spec_script.specs.Steps.{State}
 use Rattle.spec_script.specs.Output.{Numbered, Answered, Output, answers_text, begin, has_refusal, is_keeper_refusal}
 use Rattle.context_store.specs.Stores.{AreRecords}
@@ -22,7 +22,7 @@ abbrev pub tells_keeper : Numbered → Bool
 tells_keeper x = has_refusal is_keeper_refusal x.1
 
 abbrev pub is_journal_refusal : Refusal → Bool
-is_journal_refusal (OfCall (Journal number)) = true
+is_journal_refusal (OfOutside (Journal number)) = true
 is_journal_refusal _ = false
 
 -- `JOURNAL`

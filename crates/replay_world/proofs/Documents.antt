@@ -1,54 +1,45 @@
 -- What sending and delivering leave of a world.
 use Rattle.std.proofs.Common.{◌≡◌, ◌+◌, ℕ, List, [], ◌∷◌, ◌++◌, length, Option, Some, None, Result, Ok, Err, refl, sym, ap, ap₂, subst, ◌∙◌, inr}
-use Rattle.std.specs.Prelude.{option_map}
 use Rattle.spec_documents.specs.Tree.{Tree}
 use Rattle.spec_messages.specs.Message.{Message}
 use Rattle.spec_records.specs.Records.{Record}
 use Rattle.http_message.specs.Reading.{message_view}
-use Rattle.spec_exchange.specs.Refusals as exchange
-use Rattle.spec_exchange.specs.Outside.{Choice}
+use Rattle.spec_exchange.specs.ReceivingRefusals as receiving
+use Rattle.spec_exchange.specs.SendingRefusals as sending
+use Rattle.spec_exchange.specs.Outside.{Choice, Journal, Keeper, Cause, Own, Outside}
 use Rattle.spec_exchange.specs.Calls.{Sealed, Asks, accepted, sends}
 use Rattle.spec_exchange.specs.FirstFailed.{Delivery}
-use Rattle.spec_script.specs.Refusals.{OfCall}
+use Rattle.spec_script.specs.Refusals.{OfSending, OfReceiving, of_cause}
 use Rattle.spec_script.specs.Events.{Inject}
 use Rattle.spec_script.specs.Answers.{answer_text}
 use Rattle.spec_script.specs.Steps.{State, Step, OnWire, Refuses, injects, step, delivers, delivery_answer, sends_sealed, sealed_answer, sealed_sent, with_sent}
 use Rattle.sending_sepp.specs.Outcome as sent
-use Rattle.sending_sepp.specs.declared.fault.SendFault.{SendFault}
+use Rattle.sending_sepp.specs.Sending.{refusal_view as sent_view}
+use Rattle.sending_sepp.specs.declared.fault.ProtectFault.{ProtectFault}
+use Rattle.sending_sepp.specs.declared.fault.ProtectFault.TheVariants as protecting
 use Rattle.receiving_sepp.specs.Outcome as received
-use Rattle.receiving_sepp.specs.declared.refused.Delivered.{Delivered}
-use Rattle.receiving_sepp.specs.declared.refused.Refused.{Refused}
+use Rattle.receiving_sepp.specs.Views.{refused_view}
+use Rattle.receiving_sepp.specs.declared.delivery.Delivered.{Delivered}
+use Rattle.receiving_sepp.specs.declared.faults.AcceptFault.{AcceptFault}
+use Rattle.receiving_sepp.specs.declared.faults.AcceptFault.TheVariants as accepting
 use Rattle.script_answers.specs.Texts as texts
 use Rattle.script_answers.specs.View.{refusal_view}
 use Rattle.script_answers.specs.declared.refusal.Refusal.{Refusal}
-use Rattle.replay_world.specs.Refusing.{told_refusal, receiving_refusal, sending_refusal}
+use Rattle.script_answers.specs.declared.refusal.Refusal.TheVariants as refusals
+use Rattle.context_calls.specs.Changes.{CallBy}
+use Rattle.replay_world.specs.Refusing.{of_sending, of_receiving}
 use Rattle.replay_world.specs.Worlds.{sites_view, state_of}
 use Rattle.replay_world.specs.Stepping.{Makes, HasPut, GivesUp, Tells, Comes, StoreStays, Idles}
 use Rattle.replay_world.specs.declared.world.World.{World}
 use Rattle.replay_world.specs.declared.unanswered.Unanswered.{Unanswered}
 use Rattle.replay_world.specs.declared.unanswered.Unanswered.TheVariants as unanswered
 use Rattle.replay_world.proofs.Parts.{by_call, gives_up_idly}
-use Rattle.replay_world.proofs.Told.{accept_refused, accept_gave_up, protect_refused, protect_gave_up}
-
--- ---- a refusal, told
-
--- the refusal of a call, where memory sufficed for it
-told_some : (refusal : Refusal) (o : Option exchange.Refusal) → told_refusal (unanswered.Refused refusal) ≡ option_map OfCall o → (x : exchange.Refusal) × (o ≡ Some x) × (refusal_view refusal ≡ OfCall x)
-told_some refusal None is = cc
-told_some refusal (Some x) is = (x, refl, cc)
-
-told_none : (o : Option exchange.Refusal) → told_refusal unanswered.NoMemory ≡ option_map OfCall o → o ≡ None
-told_none None is = refl
-told_none (Some x) is = cc
 
 -- ---- delivering
 
-told_delivered : (number : ℕ) (text : List ℕ) (x : Delivered) (r : Result Delivery exchange.Refusal) → received.Answers (Ok x) r → text ≡ texts.delivered_answer number (message_view x.message) x.id.value → Tells number (Ok text) (delivery_answer r)
+told_delivered : (number : ℕ) (text : List ℕ) (x : Delivered) (r : Result Delivery (Cause receiving.Refusal)) → received.Answers (Ok x) r → text ≡ texts.delivered_answer number (message_view x.message) x.id.value → Tells number (Ok text) (delivery_answer r)
 told_delivered number text x r a is =
-    subst (λ (z : Result Delivery exchange.Refusal). Tells number (Ok text) (delivery_answer z)) (sym a.1) (is ∙ ap₂ (texts.delivered_answer number) a.2.message a.2.id, refl)
-
-refused_delivery : (x : exchange.Refusal) (r : Result Delivery exchange.Refusal) → r ≡ Err x → delivery_answer r ≡ Refuses (OfCall x)
-refused_delivery x r h = ap delivery_answer h
+    subst (λ (z : Result Delivery (Cause receiving.Refusal)). Tells number (Ok text) (delivery_answer z)) (sym a.1) (is ∙ ap₂ (texts.delivered_answer number) a.2.message a.2.id, refl)
 
 -- the wire and the nodes stay
 pub comes_delivered : (steps : State → Choice → Step) (held now : Option (List (List ℕ))) (old new : World) (number : ℕ) (text node : List ℕ) (t : Tree) (x : Delivered)
@@ -67,25 +58,31 @@ delivery_gives_up steps held now old new node t x h same sites wire = record {
   kept = inr (by_call (λ f records. accepted f records node t) (received.Answers (Ok x)) steps delivers held now old new.store (HasPut held now) h same (λ records o a change. change.told));
 }
 
-pub comes_undelivered : (steps : State → Choice → Step) (held now : Option (List (List ℕ))) (old new : World) (number : ℕ) (node : List ℕ) (t : Tree) (e : Refused) (u : Unanswered)
+-- a document that is refused
+undelivered_by : (steps : State → Choice → Step) (held now : Option (List (List ℕ))) (old new : World) (number : ℕ) (node : List ℕ) (t : Tree) (e : AcceptFault) (c : Cause receiving.Refusal) (refusal : Refusal)
+    → ((r : Result Delivery (Cause receiving.Refusal)) → received.Answers (Err e) r → r ≡ Err c) → of_cause OfReceiving c ≡ refusal_view refusal
+    → CallBy (λ f records. accepted f records node t) (received.Answers (Err e)) held now old.store new.store → ((records : List Record) (f : Choice) → steps (state_of old records) f ≡ delivers (state_of old records) (accepted f records node t))
+    → new.sites ≡ old.sites → new.wire ≡ old.wire → Comes steps held now old new number (Err (unanswered.Refused refusal))
+undelivered_by steps held now old new number node t e c refusal is view h same sites wire =
+    by_call (λ f records. accepted f records node t) (received.Answers (Err e)) steps delivers held now old new.store (Makes (Tells number (Err (unanswered.Refused refusal))) held now old.wire new) h same
+    (λ records o a change. record { told = ap delivery_answer (is o.result a) ∙ ap Refuses view; sites = ap sites_view sites; sent = wire; change = change })
+
+pub comes_undelivered : (steps : State → Choice → Step) (held now : Option (List (List ℕ))) (old new : World) (number : ℕ) (node : List ℕ) (t : Tree) (e : AcceptFault)
     → received.Accepts held now old.store new.store node t (Err e) → ((records : List Record) (f : Choice) → steps (state_of old records) f ≡ delivers (state_of old records) (accepted f records node t))
-    → new.sites ≡ old.sites → new.wire ≡ old.wire → told_refusal u ≡ option_map OfCall (receiving_refusal e) → Comes steps held now old new number (Err u)
-comes_undelivered steps held now old new number node t e (unanswered.Refused refusal) h same sites wire is =
-    let told = told_some refusal (receiving_refusal e) is in
-    by_call (λ f records. accepted f records node t) (λ r. r ≡ Err told.0) steps delivers held now old new.store (Makes (Tells number (Err (unanswered.Refused refusal))) held now old.wire new)
-    (accept_refused held now old.store new.store node t e told.0 told.1 h) same
-    (λ records o a change. record { told = refused_delivery told.0 o.result a ∙ ap Refuses (sym told.2); sites = ap sites_view sites; sent = wire; change = change })
-comes_undelivered steps held now old new number node t e unanswered.NoMemory h same sites wire is =
-    gives_up_idly steps held now old new sites wire (accept_gave_up held now old.store new.store node t e (told_none (receiving_refusal e) is) h).told
+    → new.sites ≡ old.sites → new.wire ≡ old.wire → Comes steps held now old new number (Err (of_receiving e))
+comes_undelivered steps held now old new number node t (accepting.Refused r) h same sites wire = undelivered_by steps held now old new number node t (accepting.Refused r) (Own (refused_view r)) (refusals.Receiving r) (λ r a. a) refl h same sites wire
+comes_undelivered steps held now old new number node t (accepting.Journal k) h same sites wire = undelivered_by steps held now old new number node t (accepting.Journal k) (Outside (Journal k)) (refusals.Journal k) (λ r a. a) refl h same sites wire
+comes_undelivered steps held now old new number node t accepting.Keeper h same sites wire = undelivered_by steps held now old new number node t accepting.Keeper (Outside Keeper) refusals.Keeper (λ r a. a) refl h same sites wire
+comes_undelivered steps held now old new number node t accepting.NoMemory h same sites wire = gives_up_idly steps held now old new sites wire h.told
 
 -- ---- sending
 
-told_sealed : (number wire : ℕ) (text : List ℕ) (t : Tree) (r : Result Sealed exchange.Refusal) → sent.Answers (Ok t) r → text ≡ texts.sealed_answer number t wire → Tells number (Ok text) (sealed_answer wire r)
+told_sealed : (number wire : ℕ) (text : List ℕ) (t : Tree) (r : Result Sealed (Cause sending.Refusal)) → sent.Answers (Ok t) r → text ≡ texts.sealed_answer number t wire → Tells number (Ok text) (sealed_answer wire r)
 told_sealed number wire text t r a is =
-    subst (λ (z : Result Sealed exchange.Refusal). Tells number (Ok text) (sealed_answer wire z)) (sym a.1) (is ∙ ap (λ (d : Tree). texts.sealed_answer number d wire) a.2, refl)
+    subst (λ (z : Result Sealed (Cause sending.Refusal)). Tells number (Ok text) (sealed_answer wire z)) (sym a.1) (is ∙ ap (λ (d : Tree). texts.sealed_answer number d wire) a.2, refl)
 
-sent_sealed : (wire : List Tree) (t : Tree) (r : Result Sealed exchange.Refusal) → sent.Answers (Ok t) r → wire ++ t ∷ [] ≡ with_sent wire (sealed_sent r)
-sent_sealed wire t r a = ap (λ (d : Tree). wire ++ d ∷ []) a.2 ∙ ap (λ (z : Result Sealed exchange.Refusal). with_sent wire (sealed_sent z)) (sym a.1)
+sent_sealed : (wire : List Tree) (t : Tree) (r : Result Sealed (Cause sending.Refusal)) → sent.Answers (Ok t) r → wire ++ t ∷ [] ≡ with_sent wire (sealed_sent r)
+sent_sealed wire t r a = ap (λ (d : Tree). wire ++ d ∷ []) a.2 ∙ ap (λ (z : Result Sealed (Cause sending.Refusal)). with_sent wire (sealed_sent z)) (sym a.1)
 
 -- the document goes last on the wire
 pub comes_sealed : (steps : State → Choice → Step) (held now : Option (List (List ℕ))) (old new : World) (number : ℕ) (text node : List ℕ) (id : ℕ) (m : Message) (t : Tree)
@@ -104,22 +101,25 @@ sealing_gives_up steps held now old new node id m t h same sites wire = record {
   kept = inr (by_call (λ f records. sends f records node id Asks m) (sent.Answers (Ok t)) steps sends_sealed held now old new.store (HasPut held now) h same (λ records o a change. change.told));
 }
 
-refused_sealing : (wire : ℕ) (x : exchange.Refusal) (r : Result Sealed exchange.Refusal) → r ≡ Err x → sealed_answer wire r ≡ Refuses (OfCall x)
-refused_sealing wire x r h = ap (sealed_answer wire) h
+unsent_sealed : (wire : List Tree) (c : Cause sending.Refusal) (r : Result Sealed (Cause sending.Refusal)) → r ≡ Err c → wire ≡ with_sent wire (sealed_sent r)
+unsent_sealed wire c r h = ap (λ (z : Result Sealed (Cause sending.Refusal)). with_sent wire (sealed_sent z)) (sym h)
 
-unsent_sealed : (wire : List Tree) (x : exchange.Refusal) (r : Result Sealed exchange.Refusal) → r ≡ Err x → wire ≡ with_sent wire (sealed_sent r)
-unsent_sealed wire x r h = ap (λ (z : Result Sealed exchange.Refusal). with_sent wire (sealed_sent z)) (sym h)
+-- a request that is refused
+unsealed_by : (steps : State → Choice → Step) (held now : Option (List (List ℕ))) (old new : World) (number : ℕ) (node : List ℕ) (id : ℕ) (m : Message) (e : ProtectFault) (c : Cause sending.Refusal) (refusal : Refusal)
+    → ((r : Result Sealed (Cause sending.Refusal)) → sent.Answers (Err e) r → r ≡ Err c) → of_cause OfSending c ≡ refusal_view refusal
+    → CallBy (λ f records. sends f records node id Asks m) (sent.Answers (Err e)) held now old.store new.store → ((records : List Record) (f : Choice) → steps (state_of old records) f ≡ sends_sealed (state_of old records) (sends f records node id Asks m))
+    → new.sites ≡ old.sites → new.wire ≡ old.wire → Comes steps held now old new number (Err (unanswered.Refused refusal))
+unsealed_by steps held now old new number node id m e c refusal is view h same sites wire =
+    by_call (λ f records. sends f records node id Asks m) (sent.Answers (Err e)) steps sends_sealed held now old new.store (Makes (Tells number (Err (unanswered.Refused refusal))) held now old.wire new) h same
+    (λ records o a change. record { told = ap (sealed_answer (length old.wire + 1)) (is o.result a) ∙ ap Refuses view; sites = ap sites_view sites; sent = wire ∙ unsent_sealed old.wire c o.result (is o.result a); change = change })
 
-pub comes_unsealed : (steps : State → Choice → Step) (held now : Option (List (List ℕ))) (old new : World) (number : ℕ) (node : List ℕ) (id : ℕ) (m : Message) (e : SendFault) (u : Unanswered)
+pub comes_unsealed : (steps : State → Choice → Step) (held now : Option (List (List ℕ))) (old new : World) (number : ℕ) (node : List ℕ) (id : ℕ) (m : Message) (e : ProtectFault)
     → sent.Protects held now old.store new.store node id m (Err e) → ((records : List Record) (f : Choice) → steps (state_of old records) f ≡ sends_sealed (state_of old records) (sends f records node id Asks m))
-    → new.sites ≡ old.sites → new.wire ≡ old.wire → told_refusal u ≡ option_map OfCall (sending_refusal e) → Comes steps held now old new number (Err u)
-comes_unsealed steps held now old new number node id m e (unanswered.Refused refusal) h same sites wire is =
-    let told = told_some refusal (sending_refusal e) is in
-    by_call (λ f records. sends f records node id Asks m) (λ r. r ≡ Err told.0) steps sends_sealed held now old new.store (Makes (Tells number (Err (unanswered.Refused refusal))) held now old.wire new)
-    (protect_refused held now old.store new.store node id m e told.0 told.1 h) same
-    (λ records o a change. record { told = refused_sealing (length old.wire + 1) told.0 o.result a ∙ ap Refuses (sym told.2); sites = ap sites_view sites; sent = wire ∙ unsent_sealed old.wire told.0 o.result a; change = change })
-comes_unsealed steps held now old new number node id m e unanswered.NoMemory h same sites wire is =
-    gives_up_idly steps held now old new sites wire (protect_gave_up held now old.store new.store node id m e (told_none (sending_refusal e) is) h).told
+    → new.sites ≡ old.sites → new.wire ≡ old.wire → Comes steps held now old new number (Err (of_sending e))
+comes_unsealed steps held now old new number node id m (protecting.Refused r) h same sites wire = unsealed_by steps held now old new number node id m (protecting.Refused r) (Own (sent_view r)) (refusals.Sending r) (λ r a. a) refl h same sites wire
+comes_unsealed steps held now old new number node id m (protecting.Journal k) h same sites wire = unsealed_by steps held now old new number node id m (protecting.Journal k) (Outside (Journal k)) (refusals.Journal k) (λ r a. a) refl h same sites wire
+comes_unsealed steps held now old new number node id m protecting.Keeper h same sites wire = unsealed_by steps held now old new number node id m protecting.Keeper (Outside Keeper) refusals.Keeper (λ r a. a) refl h same sites wire
+comes_unsealed steps held now old new number node id m protecting.NoMemory h same sites wire = gives_up_idly steps held now old new sites wire h.told
 
 -- ---- putting on the wire
 

@@ -8,10 +8,10 @@ use Rattle.spec_messages.specs.Policy.{Policy}
 use Rattle.spec_records.specs.Records.{KeySet, Context, Record, Opened, Keyed, record_limit, used, open_context, keys, keys_fit}
 use Rattle.spec_records.specs.RecordDocument.{is_well_named}
 use Rattle.spec_exchange.specs.Chain.{◌>>=◌, unless}
-use Rattle.spec_exchange.specs.Refusals.{Beyond, many_records, ContextNotFound}
+use Rattle.spec_exchange.specs.Limits.{many_records}
 use Rattle.spec_exchange.specs.Outside.{Choice, Read}
 use Rattle.spec_exchange.specs.Calls.{Asks, accepted, sends}
-use Rattle.spec_script.specs.Refusals.{Refusal, NodeUnknown, NodeExists, WireUnknown, ContextUsed, KeysTwice, BadEvent, OfCall}
+use Rattle.spec_script.specs.Refusals.{Refusal, NodeUnknown, NodeExists, WireUnknown, Beyond, KeysTwice, ContextNotFound, BadEvent, ContextUsed}
 use Rattle.spec_script.specs.Events.{HandedContext, AddNode, AddContext, AddKeys, Send, Deliver, Restart}
 use Rattle.spec_script.specs.Steps.{State, Step, refuses, or_refuses, adds_node, does, delivers, sends_sealed, plmn_at, wire_at, known_node, known_document, new_node, request_to_send, policy_to_hold, has_read, room_for_record, context_with, opens, keys_up, puts, step}
 use Rattle.replay_world.specs.Fitting.{IsFit}
@@ -114,7 +114,7 @@ opens_rest x s f = unless (used x.node x.id s.records) ContextUsed >>= λ _. roo
 
 abbrev pub keys_rest : (node : List ℕ) → (id : ℕ) → KeySet → State → Choice → Result Step Refusal
 keys_rest node id set s f =
-    wanted (open_context node id s.records) (OfCall ContextNotFound) >>= λ x.
+    wanted (open_context node id s.records) ContextNotFound >>= λ x.
     unless (is_some (keys node id s.records)) KeysTwice >>= λ _.
     unless (not (keys_fit x.suite set)) (BadEvent (codes "key")) >>= λ _.
     room_for_record s >>= λ _.
@@ -149,11 +149,11 @@ pub records_keys : (s : State) (f : Choice) (node : List ℕ) (id : ℕ) (set : 
 records_keys s f node id set h = ap (or_refuses s) (bind_ok (keys_may_come s.records node id set) tt _ h)
 
 -- room for a record
-pub no_room : (s : State) (f : Choice) (name : List ℕ) (r : Record) → record_limit ≤ length s.records → puts_record name r s f ≡ refuses s (OfCall (Beyond many_records))
-no_room s f name r h = ap (or_refuses s) (bind_err (room_for_record s) (OfCall (Beyond many_records)) _ (ap (λ (b : Bool). unless b (OfCall (Beyond many_records))) (le-leb record_limit (length s.records) h)))
+pub no_room : (s : State) (f : Choice) (name : List ℕ) (r : Record) → record_limit ≤ length s.records → puts_record name r s f ≡ refuses s (Beyond many_records)
+no_room s f name r h = ap (or_refuses s) (bind_err (room_for_record s) (Beyond many_records) _ (ap (λ (b : Bool). unless b (Beyond many_records)) (le-leb record_limit (length s.records) h)))
 
 pub has_room : (s : State) (f : Choice) (name : List ℕ) (r : Record) → length s.records < record_limit → puts_record name r s f ≡ puts s f.putting name r
-has_room s f name r h = ap (or_refuses s) (bind_ok (room_for_record s) tt _ (ap (λ (b : Bool). unless b (OfCall (Beyond many_records))) (lt-leb record_limit (length s.records) h)))
+has_room s f name r h = ap (or_refuses s) (bind_ok (room_for_record s) tt _ (ap (λ (b : Bool). unless b (Beyond many_records)) (lt-leb record_limit (length s.records) h)))
 
 -- ---- names
 

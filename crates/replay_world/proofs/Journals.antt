@@ -3,14 +3,14 @@ use Rattle.std.proofs.Common.{◌≡◌, ℕ, List, Bool, true, false, Option, S
 use Rattle.spec_documents.specs.Tree.{Tree}
 use Rattle.spec_messages.specs.Message.{Message, wanted}
 use Rattle.spec_records.specs.Records.{KeySet, Context, Record}
-use Rattle.spec_exchange.specs.Chain.{◌>>=◌, unless, none_of, or_refused}
-use Rattle.spec_exchange.specs.Refusals as exchange
-use Rattle.spec_exchange.specs.Received.{Received}
-use Rattle.spec_exchange.specs.Outside.{Choice, Reading, Read, ReadFails, BadRecord, Putting, Kept, Lost, KeptUntold, Outcome, behind_reading, or_refusal}
+use Rattle.spec_exchange.specs.Chain.{◌>>=◌, unless, or_refused}
+use Rattle.spec_exchange.specs.ReceivingRefusals as receiving
+use Rattle.spec_exchange.specs.SendingRefusals as sending
+use Rattle.spec_exchange.specs.Outside.{Choice, Journal, Cause, Own, Outside, Reading, Read, ReadFails, BadRecord, Putting, Kept, Lost, KeptUntold, Outcome, behind_reading, or_refusal}
 use Rattle.spec_exchange.specs.Outside as outside
-use Rattle.spec_exchange.specs.FirstFailed.{Delivery, first_failed_of, first_failed}
+use Rattle.spec_exchange.specs.FirstFailed.{Delivery, first_failed}
 use Rattle.spec_exchange.specs.Calls.{Sealed, Asks, delivered_record, sent_record, protected}
-use Rattle.spec_script.specs.Refusals.{Refusal, OfCall}
+use Rattle.spec_script.specs.Refusals.{Refusal, OfOutside}
 use Rattle.serde_json.specs.Data.{Data}
 use Rattle.n32_values.specs.Reading.{tree_from}
 use Rattle.spec_documents.specs.Place as place
@@ -18,98 +18,33 @@ use Rattle.spec_script.specs.LineTree.{text_value, value_tree, or_other_number}
 use Rattle.spec_script.specs.Events.{Event, AddNode, AddContext, AddKeys, Send, Inject, Deliver, Restart, event_of, or_bad_event, line_event}
 use Rattle.spec_script.specs.Steps.{State, Step, Refuses, refuses, or_refuses, puts, sends_sealed, sealed_answer, delivers, delivery_answer, has_read, request_to_send, opens, keys_up, step, step_with, line_step}
 
--- ---- refusals of calls
-
-abbrev is_journal : exchange.Refusal → Bool
-is_journal (exchange.Journal k) = true
-is_journal _ = false
-
--- no record is told
-record Silent {A : Type 0} (r : Result A exchange.Refusal) : Type 0 where
-  pub is : (e : exchange.Refusal) → r ≡ Err e → is_journal e ≡ false
-
-silent_ok : {A : Type 0} (x : A) → Silent (Ok x)
-silent_ok x = record { is = λ e h. cc }
-
-silent_err : {A : Type 0} (d : exchange.Refusal) → is_journal d ≡ false → Silent {A = A} (Err d)
-silent_err d other = record { is = λ e h. let same : d ≡ e = cc in subst (λ (z : exchange.Refusal). is_journal z ≡ false) same other }
-
-silent_bind : {A B : Type 0} (r : Result A exchange.Refusal) (k : A → Result B exchange.Refusal) → Silent r → ((x : A) → Silent (k x)) → Silent (r >>= k)
-unfolding ◌>>=◌
-silent_bind (Ok x) k h g = g x
-silent_bind (Err d) k h g = silent_err d (h.is d refl)
-
-silent_wanted : {A : Type 0} (o : Option A) (d : exchange.Refusal) → is_journal d ≡ false → Silent (wanted o d)
-silent_wanted None d other = silent_err d other
-silent_wanted (Some x) d other = silent_ok x
-
-silent_unless : (b : Bool) (d : exchange.Refusal) → is_journal d ≡ false → Silent (unless b d)
-silent_unless true d other = silent_err d other
-silent_unless false d other = silent_ok tt
-
-silent_none_of : {X : Type 0} (d : X → exchange.Refusal) (o : Option X) → ((x : X) → is_journal (d x) ≡ false) → Silent (none_of d o)
-silent_none_of d None other = silent_ok tt
-silent_none_of d (Some x) other = silent_err (d x) (other x)
-
-silent_or_refused : {X D : Type 0} (d : D → exchange.Refusal) (r : Result X D) → ((x : D) → is_journal (d x) ≡ false) → Silent (or_refused d r)
-silent_or_refused d (Ok x) other = silent_ok x
-silent_or_refused d (Err e) other = silent_err (d e) (other e)
-
--- the checks of a document tell of no record
-checks_silent : (records : List Record) (node : List ℕ) (d : Received) → Silent (first_failed_of records node d)
-checks_silent records node d =
-    silent_bind _ _ (silent_unless _ _ refl) λ a.
-    silent_bind _ _ (silent_wanted _ _ refl) λ x.
-    silent_bind _ _ (silent_wanted _ _ refl) λ k.
-    silent_bind _ _ (silent_none_of _ _ λ w. refl) λ b.
-    silent_bind _ _ (silent_wanted _ _ refl) λ plain.
-    silent_bind _ _ (silent_none_of _ _ λ n. refl) λ c.
-    silent_bind _ _ (silent_wanted _ _ refl) λ values.
-    silent_bind _ _ (silent_or_refused _ _ λ w. refl) λ holed.
-    silent_bind _ _ (silent_or_refused _ _ λ w. refl) λ content.
-    silent_bind _ _ (silent_none_of _ _ λ w. refl) λ e.
-    silent_bind _ _ (silent_unless _ _ refl) λ g.
-    silent_ok _
-
-document_silent : (records : List Record) (node : List ℕ) (t : Tree) → Silent (first_failed records node t)
-document_silent records node t = silent_bind _ _ (silent_or_refused _ _ λ w. refl) λ d. checks_silent records node d
-
--- and so do those of a request
-request_silent : (records : List Record) (node : List ℕ) (id : ℕ) (m : Message) → Silent (protected records node id Asks m)
-request_silent records node id m =
-    silent_bind _ _ (silent_wanted _ _ refl) λ x.
-    silent_bind _ _ (silent_wanted _ _ refl) λ k.
-    silent_bind _ _ (silent_ok _) λ mapping.
-    silent_bind _ _ (silent_wanted _ _ refl) λ seq.
-    silent_bind _ _ (silent_none_of _ _ λ l. refl) λ a.
-    silent_bind _ _ (silent_unless _ _ refl) λ b.
-    silent_ok _
+-- ---- calls
 
 -- a call tells of a record only where it is read so
-put_told : {T : Type 0} (p : Putting) (r : Record) (x : T) (k : ℕ) → (outside.puts p r x).result ≡ Err (exchange.Journal k) → ⊥
+put_told : {R T : Type 0} (p : Putting) (r : Record) (x : T) (k : ℕ) → (outside.puts {R = R} p r x).result ≡ Err (Outside (Journal k)) → ⊥
 put_told Kept r x k e = cc
 put_told Lost r x k e = cc
 put_told KeptUntold r x k e = cc
 
-call_told : {T : Type 0} (reading : Reading) (p : Putting) (r : Result T exchange.Refusal) (item : T → Record) (k : ℕ) → Silent r
-    → (behind_reading reading (or_refusal r (λ x. outside.puts p (item x) x))).result ≡ Err (exchange.Journal k) → reading ≡ BadRecord k
-call_told Read p (Ok x) item k silent e = absurd (put_told p (item x) x k e)
-call_told Read p (Err d) item k silent e = let other = silent.is d refl in let same : d ≡ exchange.Journal k = cc in let told : is_journal d ≡ true = ap is_journal same in cc
-call_told ReadFails p r item k silent e = cc
-call_told (BadRecord n) p r item k silent e = cc
+call_told : {R T : Type 0} (reading : Reading) (p : Putting) (r : Result T R) (item : T → Record) (k : ℕ)
+    → (behind_reading reading (or_refusal r (λ x. outside.puts p (item x) x))).result ≡ Err (Outside (Journal k)) → reading ≡ BadRecord k
+call_told Read p (Ok x) item k e = absurd (put_told p (item x) x k e)
+call_told Read p (Err d) item k e = cc
+call_told ReadFails p r item k e = cc
+call_told (BadRecord n) p r item k e = cc
 
 -- ---- steps
 
 -- a record is told only where the keeper's records are read so
 record Tells (f : Choice) (r : Step) : Type 0 where
-  pub of : (k : ℕ) → r.answer ≡ Refuses (OfCall (exchange.Journal k)) → f.reading ≡ BadRecord k
+  pub of : (k : ℕ) → r.answer ≡ Refuses (OfOutside (Journal k)) → f.reading ≡ BadRecord k
 
 abbrev names_record : Refusal → Bool
-names_record (OfCall e) = is_journal e
+names_record (OfOutside (Journal number)) = true
 names_record _ = false
 
 refusal_tells : (s : State) (f : Choice) (d : Refusal) → names_record d ≡ false → Tells f (refuses s d)
-refusal_tells s f d other = record { of = λ k e. let same : d ≡ OfCall (exchange.Journal k) = cc in let told : names_record d ≡ true = ap names_record same in cc }
+refusal_tells s f d other = record { of = λ k e. let same : d ≡ OfOutside (Journal k) = cc in let told : names_record d ≡ true = ap names_record same in cc }
 
 done_tells : (f : Choice) (r : Step) → ((e : Refusal) → r.answer ≡ Refuses e → ⊥) → Tells f r
 done_tells f r other = record { of = λ k e. absurd (other _ e) }
@@ -156,19 +91,21 @@ puts_tells s f Kept name r = record { of = λ k e. cc }
 puts_tells s f Lost name r = record { of = λ k e. cc }
 puts_tells s f KeptUntold name r = record { of = λ k e. cc }
 
-sealed_is : (n k : ℕ) (r : Result Sealed exchange.Refusal) → sealed_answer n r ≡ Refuses (OfCall (exchange.Journal k)) → r ≡ Err (exchange.Journal k)
+sealed_is : (n k : ℕ) (r : Result Sealed (Cause sending.Refusal)) → sealed_answer n r ≡ Refuses (OfOutside (Journal k)) → r ≡ Err (Outside (Journal k))
 sealed_is n k (Ok x) e = cc
-sealed_is n k (Err d) e = cc
+sealed_is n k (Err (Own d)) e = cc
+sealed_is n k (Err (Outside fault)) e = cc
 
-delivery_is : (k : ℕ) (r : Result Delivery exchange.Refusal) → delivery_answer r ≡ Refuses (OfCall (exchange.Journal k)) → r ≡ Err (exchange.Journal k)
+delivery_is : (k : ℕ) (r : Result Delivery (Cause receiving.Refusal)) → delivery_answer r ≡ Refuses (OfOutside (Journal k)) → r ≡ Err (Outside (Journal k))
 delivery_is k (Ok x) e = cc
-delivery_is k (Err d) e = cc
+delivery_is k (Err (Own d)) e = cc
+delivery_is k (Err (Outside fault)) e = cc
 
-sealed_tells : (s : State) (f : Choice) (r : Result Sealed exchange.Refusal) → Silent r → Tells f (sends_sealed s (behind_reading f.reading (or_refusal r (λ x. outside.puts f.putting (sent_record x) x))))
-sealed_tells s f r silent = record { of = λ k e. call_told f.reading f.putting r sent_record k silent (sealed_is _ k _ e) }
+sealed_tells : (s : State) (f : Choice) (r : Result Sealed sending.Refusal) → Tells f (sends_sealed s (behind_reading f.reading (or_refusal r (λ x. outside.puts f.putting (sent_record x) x))))
+sealed_tells s f r = record { of = λ k e. call_told f.reading f.putting r sent_record k (sealed_is _ k _ e) }
 
-delivery_tells : (s : State) (f : Choice) (r : Result Delivery exchange.Refusal) → Silent r → Tells f (delivers s (behind_reading f.reading (or_refusal r (λ x. outside.puts f.putting (delivered_record x) x))))
-delivery_tells s f r silent = record { of = λ k e. call_told f.reading f.putting r delivered_record k silent (delivery_is k _ e) }
+delivery_tells : (s : State) (f : Choice) (r : Result Delivery receiving.Refusal) → Tells f (delivers s (behind_reading f.reading (or_refusal r (λ x. outside.puts f.putting (delivered_record x) x))))
+delivery_tells s f r = record { of = λ k e. call_told f.reading f.putting r delivered_record k (delivery_is k _ e) }
 
 opens_tells : (s : State) (f : Choice) (x : Context) → Tells f (or_refuses s (opens s f x))
 opens_tells s f x =
@@ -198,9 +135,9 @@ event_tells : (s : State) (f : Choice) (e : Event) → Tells f (step s f e)
 event_tells s f (AddNode node plmn) = step_bind s f _ _ (mute_unless _ _ refl) λ a. done_tells f _ λ e is. cc
 event_tells s f (AddContext x) = step_bind s f _ _ (mute_wanted _ _ refl) λ plmn. step_bind s f _ _ (mute_or_refused _ _ λ k. refl) λ policy. opens_tells s f _
 event_tells s f (AddKeys node id set) = step_bind s f _ _ (mute_wanted _ _ refl) λ plmn. keys_tells s f node id set
-event_tells s f (Send node id t answers) = step_bind s f _ _ (mute_wanted _ _ refl) λ plmn. step_bind s f _ _ (sent_mute t answers) λ m. sealed_tells s f _ (request_silent s.records node id m)
+event_tells s f (Send node id t answers) = step_bind s f _ _ (mute_wanted _ _ refl) λ plmn. step_bind s f _ _ (sent_mute t answers) λ m. sealed_tells s f (protected s.records node id Asks m)
 event_tells s f (Inject t) = done_tells f _ λ e is. cc
-event_tells s f (Deliver node number) = step_bind s f _ _ (mute_wanted _ _ refl) λ plmn. step_bind s f _ _ (mute_wanted _ _ refl) λ t. delivery_tells s f _ (document_silent s.records node t)
+event_tells s f (Deliver node number) = step_bind s f _ _ (mute_wanted _ _ refl) λ plmn. step_bind s f _ _ (mute_wanted _ _ refl) λ t. delivery_tells s f (first_failed s.records node t)
 event_tells s f (Restart node) = step_bind s f _ _ (mute_wanted _ _ refl) λ plmn. done_tells f _ λ e is. cc
 
 -- ---- lines
@@ -222,5 +159,5 @@ with_tells s f (Ok e) mute = event_tells s f e
 with_tells s f (Err e) mute = refusal_tells s f e (mute.is e refl)
 
 -- a line that is answered by a bad record: the keeper was read, and has it
-pub line_tells : (s : State) (f : Choice) (line : List ℕ) (k : ℕ) → (line_step s f line).answer ≡ Refuses (OfCall (exchange.Journal k)) → f.reading ≡ BadRecord k
+pub line_tells : (s : State) (f : Choice) (line : List ℕ) (k : ℕ) → (line_step s f line).answer ≡ Refuses (OfOutside (Journal k)) → f.reading ≡ BadRecord k
 line_tells s f line k e = (with_tells s f (line_event line) (value_mute (text_value line))).of k e

@@ -4,7 +4,6 @@ pub mod Parts
 pub mod EventSteps
 pub mod Nodes
 pub mod Sealing
-pub mod Told
 pub mod Documents
 pub mod Recording
 pub mod Unread

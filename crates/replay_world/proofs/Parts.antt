@@ -4,13 +4,13 @@ use Rattle.spec_records.specs.Records.{Record, record_limit}
 use Rattle.n32_outside.specs.Contents.{Stays}
 use Rattle.context_store.specs.Stores.{Stored, Holds, IsConsistent}
 use Rattle.context_calls.specs.Changes.{Change, CallBy}
-use Rattle.spec_exchange.specs.Refusals as exchange
-use Rattle.spec_exchange.specs.Outside.{Choice, no_fault, Read, ReadFails, Putting, Lost, Outcome}
+use Rattle.spec_exchange.specs.Outside.{Choice, Cause, no_fault, Read, ReadFails, Putting, Lost, Outcome}
 use Rattle.spec_script.specs.Refusals as script
 use Rattle.spec_script.specs.Steps.{State, Answer, Step, refuses, with_sent}
 use Rattle.script_answers.specs.View.{refusal_view}
 use Rattle.script_answers.specs.declared.refusal.Refusal.{Refusal}
-use Rattle.replay_world.specs.Refusing.{Refuses}
+use Rattle.spec_documents.specs.Gives as gives
+use Rattle.replay_world.specs.Refusing.{told_refusal}
 use Rattle.replay_world.specs.Worlds.{sites_view, state_of}
 use Rattle.replay_world.specs.Stepping.{IsChosen, StepBy, Makes, HasPut, GivesUp, Tells, Comes, StoreStays, Idles, ComesIdly}
 use Rattle.replay_world.specs.declared.world.World.{World}
@@ -176,9 +176,9 @@ gives_up_idly steps held now old new sites wire stays = record { sites = ap site
 -- ---- calls over the store
 
 -- a step that is made of what a call comes to
-pub by_call : {X : Type 0} (outcome : Choice → List Record → Outcome X) (Answers : Result X exchange.Refusal → Type 0) (steps : State → Choice → Step) (make : State → Outcome X → Step) (held now : Option (List (List ℕ))) (old : World) (new : Stored) (P : List Record → Step → Type 0)
+pub by_call : {X R : Type 0} (outcome : Choice → List Record → Outcome R X) (Answers : Result X (Cause R) → Type 0) (steps : State → Choice → Step) (make : State → Outcome R X → Step) (held now : Option (List (List ℕ))) (old : World) (new : Stored) (P : List Record → Step → Type 0)
     → CallBy outcome Answers held now old.store new → ((records : List Record) (f : Choice) → steps (state_of old records) f ≡ make (state_of old records) (outcome f records))
-    → ((records : List Record) (o : Outcome X) → Answers o.result → Change held now records new o.put → P records (make (state_of old records) o))
+    → ((records : List Record) (o : Outcome R X) → Answers o.result → Change held now records new o.put → P records (make (state_of old records) o))
     → StepBy steps held old P
 by_call outcome Answers steps make held now old new P h same leaves = record {
   choice = h.choice;
@@ -188,13 +188,13 @@ by_call outcome Answers steps make held now old new P h same leaves = record {
 }
 
 -- what was to be read is refused before the keeper is asked
-pub comes_unfit : {B : Type 0} (steps : State → Choice → Step) (held : Option (List (List ℕ))) (old : World) (number : ℕ) (why : Unanswered) (wanted : Result B script.Refusal) → IsConsistent held old.store → Refuses why wanted
+pub comes_unfit : {B : Type 0} (steps : State → Choice → Step) (held : Option (List (List ℕ))) (old : World) (number : ℕ) (why : Unanswered) (wanted : Result B script.Refusal) → IsConsistent held old.store → gives.Tells (told_refusal why) wanted
     → ((records : List Record) (f : Choice) (e : script.Refusal) → wanted ≡ Err e → steps (state_of old records) f ≡ refuses (state_of old records) e) → Comes steps held held old old number (Err why)
 comes_unfit steps held old number (unanswered.Refused refusal) wanted consistent told same = comes_refused steps held old number refusal consistent (λ records f. same records f (refusal_view refusal) told)
 comes_unfit steps held old number unanswered.NoMemory wanted consistent told same = gives_up_idly steps held held old old refl refl refl
 
 -- the same, over the records of a fresh store
-pub comes_unfit_fresh : {B : Type 0} (steps : State → Choice → Step) (held : Option (List (List ℕ))) (old : World) (number : ℕ) (why : Unanswered) (wanted : Result B script.Refusal) → old.store.fresh ≡ true → IsConsistent held old.store → Refuses why wanted
+pub comes_unfit_fresh : {B : Type 0} (steps : State → Choice → Step) (held : Option (List (List ℕ))) (old : World) (number : ℕ) (why : Unanswered) (wanted : Result B script.Refusal) → old.store.fresh ≡ true → IsConsistent held old.store → gives.Tells (told_refusal why) wanted
     → ((f : Choice) (e : script.Refusal) → wanted ≡ Err e → steps (state_of old old.store.records) f ≡ refuses (state_of old old.store.records) e) → Comes steps held held old old number (Err why)
 comes_unfit_fresh steps held old number (unanswered.Refused refusal) wanted fresh consistent told same =
     comes_fresh steps (λ s f. refuses s (refusal_view refusal)) held held old old number (Err (unanswered.Refused refusal)) fresh (λ f. same f (refusal_view refusal) told)

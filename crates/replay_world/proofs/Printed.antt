@@ -33,24 +33,16 @@ keeper_alone refusals.NodeExists h = cc
 keeper_alone refusals.WireUnknown h = cc
 keeper_alone (refusals.Limit which) h = cc
 keeper_alone refusals.KeysTwice h = cc
-keeper_alone (refusals.Journal number) h = cc
 keeper_alone refusals.ContextNotFound h = cc
-keeper_alone refusals.NoKeys h = cc
-keeper_alone refusals.SeqSpent h = cc
 keeper_alone (refusals.Message member) h = cc
 keeper_alone refusals.Depth h = cc
 keeper_alone (refusals.PolicyForm mapping) h = cc
-keeper_alone (refusals.Form member) h = cc
-keeper_alone refusals.NoContext h = cc
-keeper_alone refusals.NoReceiveKeys h = cc
-keeper_alone (refusals.Cipher why) h = cc
-keeper_alone refusals.Integrity h = cc
-keeper_alone (refusals.Replay number) h = cc
-keeper_alone (refusals.Reconstruction why) h = cc
-keeper_alone (refusals.Policy address) h = cc
-keeper_alone refusals.Keeper h = refl
 keeper_alone refusals.ContextUsed h = cc
 keeper_alone refusals.NotBuilt h = cc
+keeper_alone (refusals.Journal number) h = cc
+keeper_alone refusals.Keeper h = refl
+keeper_alone (refusals.Sending refusal) h = cc
+keeper_alone (refusals.Receiving refusal) h = cc
 
 -- a step with the same told otherwise
 told_so : (steps : State → Choice → Step) (held now : Option (List (List ℕ))) (old new : World) (P Q : Answer → Type 0) → ((a : Answer) → P a → Q a)

@@ -13,19 +13,20 @@ use Rattle.spec_records.specs.Records.{OneKey, Context, Record}
 use Rattle.http_message.specs.Stage.{is_built}
 use Rattle.context_store.specs.Stores.{Stored}
 use Rattle.spec_exchange.specs.Chain.{◌>>=◌, unless, or_refused}
-use Rattle.spec_exchange.specs.Refusals as exchange
+use Rattle.spec_exchange.specs.SendingRefusals as sending
 use Rattle.spec_exchange.specs.Jwe.{carrier, sealed, content_key, nonce}
 use Rattle.spec_exchange.specs.Rebuilding.{plaintext}
 use Rattle.spec_exchange.specs.Outside.{Reading, Read, ReadFails, BadRecord, Putting, Kept, Lost, KeptUntold, puts, behind_reading, or_refusal}
 use Rattle.spec_exchange.specs.Calls.{Sealed, Outgoing, Asks, protected, sent_record, sealed_document, sent_block_of, message_id, send_key, kind_of_outgoing}
-use Rattle.spec_script.specs.Refusals.{Refusal, BadEvent, BadMessage, DeepBody, OfCall}
+use Rattle.spec_script.specs.Refusals.{Refusal, BadEvent, BadMessage, DeepBody, NotBuilt}
 use Rattle.spec_script.specs.Steps.{is_of_response, request_to_send}
 use Rattle.sending_sepp.specs.Outcome as sent
 use Rattle.jwe_flat.specs.declared.jwe.FlatJwe.{FlatJwe}
 use Rattle.script_answers.specs.View.{refusal_view}
 use Rattle.replay_world.specs.declared.unanswered.Unanswered.{Unanswered}
 use Rattle.replay_world.specs.declared.unanswered.Unanswered.TheVariants as unanswered
-use Rattle.replay_world.specs.Refusing.{Refuses}
+use Rattle.spec_documents.specs.Gives.{Tells}
+use Rattle.replay_world.specs.Refusing.{told_refusal}
 use Rattle.replay_world.specs.Worlds.{IsShallow}
 use Rattle.replay_world.specs.Sending.{request_in, shallow_message}
 
@@ -47,8 +48,8 @@ abbrev sent_if : Option ℕ → Message → Result Message Refusal
 sent_if o m = unless (is_some o) (BadEvent (codes "answers")) >>= λ y. Ok m
 
 parted : (response : Bool) (r : Result Message Member) (o : Option ℕ)
-    → (unless response (OfCall exchange.NotBuilt) >>= λ x. or_refused BadMessage r >>= λ m. unless (nat_lt 64 (body_depth m.body)) DeepBody >>= λ y. sent_if o m)
-    ≡ (cond (not response) (shallow_message r) (Err (OfCall exchange.NotBuilt)) >>= λ m. sent_if o m)
+    → (unless response NotBuilt >>= λ x. or_refused BadMessage r >>= λ m. unless (nat_lt 64 (body_depth m.body)) DeepBody >>= λ y. sent_if o m)
+    ≡ (cond (not response) (shallow_message r) (Err NotBuilt) >>= λ m. sent_if o m)
 unfolding ◌>>=◌
 parted true r o = refl
 parted false (Err k) o = refl
@@ -59,7 +60,7 @@ parted false (Ok m) o = rw (lower_is (body_depth m.body)) (by_depth (nat_le (bod
     by_depth false = refl
 
 pub request_is : (t : Tree) (o : Option ℕ) → request_to_send t o ≡ (request_in t >>= λ m. sent_if o m)
-request_is t o = parted (is_of_response t) (message_of t) o ∙ ap (λ (b : Bool). cond b (shallow_message (message_of t)) (Err (OfCall exchange.NotBuilt)) >>= λ m. sent_if o m) (sym (built_is t))
+request_is t o = parted (is_of_response t) (message_of t) o ∙ ap (λ (b : Bool). cond b (shallow_message (message_of t)) (Err NotBuilt) >>= λ m. sent_if o m) (sym (built_is t))
 
 pub request_sent : (t : Tree) (m : Message) → request_in t ≡ Ok m → request_to_send t None ≡ Ok m
 unfolding ◌>>=◌
@@ -123,16 +124,16 @@ of_shallow (Ok x) m e = ap (λ (z : Message). Ok z) (by_depth (nat_le (body_dept
 pub request_kind : (t : Tree) (m : Message) → request_in t ≡ Ok m → kind_of m ≡ of_request
 request_kind t m e = by_stage (is_built t) refl e
   where
-    by_stage : (b : Bool) → is_built t ≡ b → cond b (shallow_message (message_of t)) (Err (OfCall exchange.NotBuilt)) ≡ Ok m → kind_of m ≡ of_request
+    by_stage : (b : Bool) → is_built t ≡ b → cond b (shallow_message (message_of t)) (Err NotBuilt) ≡ Ok m → kind_of m ≡ of_request
     by_stage true is e = of_built t m is (of_shallow (message_of t) m e)
     by_stage false is e = cc
 
 -- ---- what is sealed is shallow
 
-record AllLow (r : Result Sealed exchange.Refusal) : Type 0 where
+record AllLow (r : Result Sealed sending.Refusal) : Type 0 where
   pub low : (s : Sealed) → r ≡ Ok s → IsShallow s.document
 
-bind_low : {A : Type 0} (r : Result A exchange.Refusal) (k : A → Result Sealed exchange.Refusal) → ((x : A) → AllLow (k x)) → AllLow (r >>= k)
+bind_low : {A : Type 0} (r : Result A sending.Refusal) (k : A → Result Sealed sending.Refusal) → ((x : A) → AllLow (k x)) → AllLow (r >>= k)
 unfolding ◌>>=◌
 bind_low (Ok x) k h = h x
 bind_low (Err e) k h = record { low = λ s is. cc }
@@ -151,12 +152,12 @@ protected_low records node id o m =
     bind_low _ _ λ x. bind_low _ _ λ k. bind_low _ _ λ mapping. bind_low _ _ λ seq. bind_low _ _ λ few. bind_low _ _ λ room.
     ok_low _ (document_of_low x (send_key (kind_of_outgoing o) k) seq (sent_block_of x mapping (message_id o seq) m) (values x.policy mapping m))
 
-put_result : (p : Putting) (r : Record) (x s : Sealed) → (puts p r x).result ≡ Ok s → x ≡ s
+put_result : (p : Putting) (r : Record) (x s : Sealed) → (puts {R = sending.Refusal} p r x).result ≡ Ok s → x ≡ s
 put_result Kept r x s e = cc
 put_result Lost r x s e = cc
 put_result KeptUntold r x s e = cc
 
-sent_result : (reading : Reading) (p : Putting) (r : Result Sealed exchange.Refusal) (s : Sealed) → (behind_reading reading (or_refusal r (λ x. puts p (sent_record x) x))).result ≡ Ok s → r ≡ Ok s
+sent_result : (reading : Reading) (p : Putting) (r : Result Sealed sending.Refusal) (s : Sealed) → (behind_reading reading (or_refusal r (λ x. puts p (sent_record x) x))).result ≡ Ok s → r ≡ Ok s
 sent_result Read p (Ok x) s e = ap (λ (z : Sealed). Ok z) (put_result p (sent_record x) x s e)
 sent_result Read p (Err d) s e = cc
 sent_result ReadFails p r s e = cc
@@ -176,6 +177,6 @@ all_more P (u ∷ us) t all one = (all.0, all_more P us t all.1 one)
 
 -- ---- refusals of requests
 
-pub still_refused : (t : Tree) (o : Option ℕ) (u : Unanswered) → Refuses u (request_in t) → Refuses u (request_to_send t o)
+pub still_refused : (t : Tree) (o : Option ℕ) (u : Unanswered) → Tells (told_refusal u) (request_in t) → Tells (told_refusal u) (request_to_send t o)
 still_refused t o (unanswered.Refused refusal) h = request_refused t o (refusal_view refusal) h
 still_refused t o unanswered.NoMemory h = tt

@@ -3,9 +3,8 @@ use Rattle.std.specs.Prelude.{ℕ, List, not, is_some, Result, Ok, codes}
 use Rattle.spec_messages.specs.Message.{wanted}
 use Rattle.spec_records.specs.Records.{KeySet, Context, Record, Opened, Keyed, keys_fit, used, open_context, keys}
 use Rattle.spec_exchange.specs.Chain.{◌>>=◌, unless}
-use Rattle.spec_exchange.specs.Refusals.{ContextNotFound}
 use Rattle.spec_exchange.specs.Outside.{Choice}
-use Rattle.spec_script.specs.Refusals.{Refusal, BadEvent, ContextUsed, KeysTwice, OfCall}
+use Rattle.spec_script.specs.Refusals.{Refusal, BadEvent, KeysTwice, ContextNotFound, ContextUsed}
 use Rattle.spec_script.specs.Events.{HandedContext}
 use Rattle.spec_script.specs.Steps.{State, Step, or_refuses, policy_to_hold, context_with, room_for_record, puts}
 
@@ -24,7 +23,7 @@ opens_new x s f = or_refuses s (unless (used x.node x.id s.records) ContextUsed 
 -- keys may be handed in, over these records
 abbrev pub keys_may_come : List Record → (node : List ℕ) → (id : ℕ) → KeySet → Result (Unit {0}) Refusal
 keys_may_come records node id set = do
-  x ← wanted (open_context node id records) (OfCall ContextNotFound)
+  x ← wanted (open_context node id records) ContextNotFound
   _ ← unless (is_some (keys node id records)) KeysTwice
   unless (not (keys_fit x.suite set)) (BadEvent (codes "key"))
 

@@ -4,9 +4,8 @@ use Rattle.std.specs.List.{AllByRecursion}
 use Rattle.spec_documents.specs.Tree.{Tree, depth}
 use Rattle.n32_outside.specs.Causes.{Rose}
 use Rattle.spec_records.specs.Records.{Record}
-use Rattle.spec_exchange.specs.Outside.{Choice, with_put}
-use Rattle.spec_exchange.specs.Refusals.{Journal}
-use Rattle.spec_script.specs.Refusals.{OfCall}
+use Rattle.spec_exchange.specs.Outside.{Choice, Journal, with_put}
+use Rattle.spec_script.specs.Refusals.{OfOutside}
 use Rattle.spec_script.specs.Steps as spec
 use Rattle.spec_script.specs.Steps.{State, Refuses, after, line_step, plmn_at}
 use Rattle.spec_script.specs.Answers.{answer_text}
@@ -60,7 +59,7 @@ pub record StepsOver (now : Option (List (List ℕ))) (before after_ : ℕ) (old
   -- a fault of the keeper is told only where its count rose
   pub failed : has_refusal is_keeper_refusal (line_step (state_of old records) choice line).answer ≡ true → Rose before after_
   -- a bad record is told only where it is the first
-  pub journal : (k : ℕ) → (line_step (state_of old records) choice line).answer ≡ Refuses (OfCall (Journal k)) → IsFirstBad texts k
+  pub journal : (k : ℕ) → (line_step (state_of old records) choice line).answer ≡ Refuses (OfOutside (Journal k)) → IsFirstBad texts k
 
 -- where the keeper tells texts that are all records
 abbrev pub Steps : (held now : Option (List (List ℕ))) → (before after_ : ℕ) → (old new : World) → (number : ℕ) → (line text : List ℕ) → Type 0

@@ -8,7 +8,8 @@ ghost use Rattle.context_records.specs.View.{context_view, key_set_view, record_
 ghost use Rattle.script_events.specs.View.{handed_view};
 ghost use Rattle.spec_script.specs.Events.{AddContext, AddKeys};
 ghost use Rattle.spec_script.specs.Steps as spec;
-ghost use Rattle.replay_world.specs.Refusing.{Gives, SparesKeeper};
+ghost use Rattle.spec_documents.specs.Gives.{Gives};
+ghost use Rattle.replay_world.specs.Refusing.{SparesKeeper, told_refusal};
 ghost use Rattle.replay_world.specs.Worlds.{IsReady};
 ghost use Rattle.replay_world.specs.Stepping.{Comes};
 ghost use Rattle.replay_world.specs.Handing.{context_to_open, keys_may_come, keys_new, opens_new, puts_record};
@@ -17,19 +18,19 @@ ghost use Rattle.replay_world.specs.Fitting.{IsFit};
 use crate::sites::is_known;
 use crate::unanswered::{Unanswered, unread, unrecorded};
 use crate::world::World;
+use context_records::{Context, KeySet, Record};
 use context_store::Store;
 use n32_outside::Keeper;
 use n32_values::{Bytes, Hex64, Text};
 use policy_documents::{PolicyRead, read_policy};
 use script_answers::{Refusal, done_text};
 use script_events::HandedContext;
-use context_records::{Context, KeySet, Record};
 use std::alloc::Global;
 
 // The context that is handed in, with the policy that its document is of.
 #[tactic(auto, unfolding(spec_exchange::specs::Chain::chains))]
 fn context_of(alloc: Global, handed: HandedContext) -> Result<Context, Unanswered>
-    ensures gives { Gives context_view result (context_to_open (handed_view handed)) }
+    ensures gives { Gives told_refusal context_view result (context_to_open (handed_view handed)) }
     ensures spares { SparesKeeper result }
 {
     let policy = match read_policy(alloc, &handed.policy) {
@@ -147,7 +148,7 @@ pub(crate) fn hand_in_context<K: Keeper>(
 // Whether the keys may be handed in: the context is open, has none yet, and they fit its suite.
 #[tactic(auto, unfolding(spec_exchange::specs::Chain::chains))]
 fn check_keys(store: &Store, node: &Text, id: Hex64, keys: &KeySet) -> Result<(), Unanswered>
-    ensures gives { Gives (λ _. tt) result (keys_may_come store.now.records node.now id.value (key_set_view keys.now)) }
+    ensures gives { Gives told_refusal (λ _. tt) result (keys_may_come store.now.records node.now id.value (key_set_view keys.now)) }
     ensures spares { SparesKeeper result }
 {
     let Some(context) = store.context(node, id) else {

@@ -4,7 +4,8 @@ ghost use Rattle.spec_documents.specs.Tree.{depth as nesting};
 ghost use Rattle.script_events.specs.View.{event_view};
 ghost use Rattle.spec_script.specs.Events.{line_event};
 ghost use Rattle.spec_script.specs.LineTree.{line_tree};
-ghost use Rattle.replay_world.specs.Refusing.{Gives, SparesKeeper};
+ghost use Rattle.spec_documents.specs.Gives.{Gives};
+ghost use Rattle.replay_world.specs.Refusing.{SparesKeeper, told_refusal};
 ghost use Rattle.replay_world.specs.Fitting.{IsFit};
 
 use crate::unanswered::Unanswered;
@@ -14,7 +15,7 @@ use script_events::{Event, EventRead, read_event};
 use std::alloc::Global;
 
 fn read_line(alloc: Global, line: &[u8]) -> Result<Doc, Unanswered>
-    ensures gives { Gives (λ d. d) result (line_tree line.now) }
+    ensures gives { Gives told_refusal (λ d. d) result (line_tree line.now) }
     ensures shallow { IfOk result (λ d. nesting d ≤ 127) }
     ensures spares { SparesKeeper result }
 {
@@ -31,7 +32,7 @@ fn read_line(alloc: Global, line: &[u8]) -> Result<Doc, Unanswered>
 
 /// The event of a line, or the first reason why it is of none.
 pub(crate) fn read_line_event(alloc: Global, line: &[u8]) -> Result<Event, Unanswered>
-    ensures gives { Gives event_view result (line_event line.now) }
+    ensures gives { Gives told_refusal event_view result (line_event line.now) }
     ensures fit { IfOk result (λ event. IsFit (event_view event)) }
     ensures spares { SparesKeeper result }
 {

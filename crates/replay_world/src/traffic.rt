@@ -8,7 +8,8 @@ ghost use Rattle.spec_script.specs.Events.{Deliver, Inject, Send};
 ghost use Rattle.spec_exchange.specs.Calls.{Asks, sends};
 ghost use Rattle.script_answers.specs.Texts.{sealed_answer};
 ghost use Rattle.spec_script.specs.Steps as spec;
-ghost use Rattle.replay_world.specs.Refusing.{Gives, SparesKeeper};
+ghost use Rattle.spec_documents.specs.Gives.{Gives};
+ghost use Rattle.replay_world.specs.Refusing.{SparesKeeper, told_refusal};
 ghost use Rattle.replay_world.specs.Sending.{request_in};
 ghost use Rattle.replay_world.specs.Worlds.{IsReady, IsShallow};
 ghost use Rattle.replay_world.specs.Stepping.{Comes, ComesIdly};
@@ -37,7 +38,7 @@ fn document_at<'a>(wire: &'a DocList, number: &Whole) -> Option<&'a Doc>
 
 // The request that a document is of.
 fn read_request(alloc: Global, document: &Node) -> Result<Message, Unanswered>
-    ensures gives { Gives message_view result (request_in (tree_of document.now)) }
+    ensures gives { Gives told_refusal message_view result (request_in (tree_of document.now)) }
     ensures whole { IfOk result (λ m. IsTrue (is_whole (message_view m))) }
     ensures shallow { IfOk result (λ m. body_depth (message_view m).body ≤ 64) }
     ensures spares { SparesKeeper result }
@@ -57,7 +58,7 @@ fn request_to_send(
     document: &Node,
     answers: Option<Hex64>,
 ) -> Result<Message, Unanswered>
-    ensures gives { Gives message_view result (spec.request_to_send (tree_of document.now) (option_map (λ id. id.value) answers)) }
+    ensures gives { Gives told_refusal message_view result (spec.request_to_send (tree_of document.now) (option_map (λ id. id.value) answers)) }
     ensures whole { IfOk result (λ m. IsTrue (is_whole (message_view m))) }
     ensures shallow { IfOk result (λ m. body_depth (message_view m).body ≤ 64) }
     ensures kind { IfOk result (λ m. kind_of (message_view m) ≡ of_request) }
@@ -192,6 +193,6 @@ pub(crate) fn deliver<K: Keeper>(
     };
     match accept(alloc, &mut world.store, keeper, node, document) {
         Ok(delivered) => Ok(delivered_text(alloc, number, delivered.message, delivered.id)?),
-        Err(refused) => Err(undelivered(refused)),
+        Err(fault) => Err(undelivered(fault)),
     }
 }

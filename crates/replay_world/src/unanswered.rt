@@ -1,14 +1,13 @@
 // What comes in place of an answer's text.
-ghost use Rattle.std.specs.Prelude.{◌≡◌, option_map};
-ghost use Rattle.spec_script.specs.Refusals.{OfCall};
-ghost use Rattle.replay_world.specs.Refusing.{adding_refusal, opening_refusal, receiving_refusal, sending_refusal, told_refusal};
+ghost use Rattle.std.specs.Prelude.{◌≡◌};
+ghost use Rattle.replay_world.specs.Refusing.{of_adding, of_opening, of_receiving, of_sending};
 
 use block_forms::LimitName;
 use context_store::{AddFault, OpenFault};
 use n32_values::NoMemory;
-use receiving_sepp::Refused;
+use receiving_sepp::AcceptFault;
 use script_answers::Refusal;
-use sending_sepp::SendFault;
+use sending_sepp::ProtectFault;
 
 /// Why an event has no text as its answer yet.
 #[derive(Drop)]
@@ -30,7 +29,7 @@ impl From<NoMemory> for Unanswered {
 }
 
 pub(crate) fn unread(fault: OpenFault) -> Unanswered
-    ensures { told_refusal result ≡ option_map OfCall (opening_refusal fault) }
+    ensures { result ≡ of_opening fault }
 {
     match fault {
         OpenFault::Journal(number) => Unanswered::Refused(Refusal::Journal(number)),
@@ -40,7 +39,7 @@ pub(crate) fn unread(fault: OpenFault) -> Unanswered
 }
 
 pub(crate) fn unrecorded(fault: AddFault) -> Unanswered
-    ensures { told_refusal result ≡ option_map OfCall (adding_refusal fault) }
+    ensures { result ≡ of_adding fault }
 {
     match fault {
         AddFault::Limit => Unanswered::Refused(Refusal::Limit(LimitName::Records)),
@@ -49,36 +48,24 @@ pub(crate) fn unrecorded(fault: AddFault) -> Unanswered
     }
 }
 
-pub(crate) fn unsent(fault: SendFault) -> Unanswered
-    ensures { told_refusal result ≡ option_map OfCall (sending_refusal fault) }
+pub(crate) fn unsent(fault: ProtectFault) -> Unanswered
+    ensures { result ≡ of_sending fault }
 {
     match fault {
-        SendFault::Journal(number) => Unanswered::Refused(Refusal::Journal(number)),
-        SendFault::ContextNotFound => Unanswered::Refused(Refusal::ContextNotFound),
-        SendFault::NoKeys => Unanswered::Refused(Refusal::NoKeys),
-        SendFault::SeqSpent => Unanswered::Refused(Refusal::SeqSpent),
-        SendFault::Limit(which) => Unanswered::Refused(Refusal::Limit(which)),
-        SendFault::Keeper => Unanswered::Refused(Refusal::Keeper),
-        SendFault::NoMemory => Unanswered::NoMemory,
+        ProtectFault::Refused(refusal) => Unanswered::Refused(Refusal::Sending(refusal)),
+        ProtectFault::Journal(number) => Unanswered::Refused(Refusal::Journal(number)),
+        ProtectFault::Keeper => Unanswered::Refused(Refusal::Keeper),
+        ProtectFault::NoMemory => Unanswered::NoMemory,
     }
 }
 
-pub(crate) fn undelivered(refused: Refused) -> Unanswered
-    ensures { told_refusal result ≡ option_map OfCall (receiving_refusal refused) }
+pub(crate) fn undelivered(fault: AcceptFault) -> Unanswered
+    ensures { result ≡ of_receiving fault }
 {
-    match refused {
-        Refused::Form(member) => Unanswered::Refused(Refusal::Form(member)),
-        Refused::NotBuilt => Unanswered::Refused(Refusal::NotBuilt),
-        Refused::ContextNotFound => Unanswered::Refused(Refusal::NoContext),
-        Refused::NoKeys => Unanswered::Refused(Refusal::NoReceiveKeys),
-        Refused::Cipher(why) => Unanswered::Refused(Refusal::Cipher(why)),
-        Refused::Integrity => Unanswered::Refused(Refusal::Integrity),
-        Refused::Replay(number) => Unanswered::Refused(Refusal::Replay(number)),
-        Refused::Reconstruction(why) => Unanswered::Refused(Refusal::Reconstruction(why)),
-        Refused::Policy(address) => Unanswered::Refused(Refusal::Policy(address)),
-        Refused::Limit => Unanswered::Refused(Refusal::Limit(LimitName::Records)),
-        Refused::Keeper => Unanswered::Refused(Refusal::Keeper),
-        Refused::Journal(number) => Unanswered::Refused(Refusal::Journal(number)),
-        Refused::NoMemory => Unanswered::NoMemory,
+    match fault {
+        AcceptFault::Refused(refusal) => Unanswered::Refused(Refusal::Receiving(refusal)),
+        AcceptFault::Journal(number) => Unanswered::Refused(Refusal::Journal(number)),
+        AcceptFault::Keeper => Unanswered::Refused(Refusal::Keeper),
+        AcceptFault::NoMemory => Unanswered::NoMemory,
     }
 }

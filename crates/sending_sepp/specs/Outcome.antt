@@ -1,38 +1,34 @@
 -- What sending a request comes to: the answer, and what is held after it.
-use Rattle.std.specs.Prelude.{◌≡◌, ⊤, ℕ, List, Option, Result, Ok, Err}
+use Rattle.std.specs.Prelude.{◌≡◌, ℕ, List, Option, Result, Ok, Err}
 use Rattle.spec_documents.specs.Tree.{Tree}
+use Rattle.spec_documents.specs.Gives.{Tells}
 use Rattle.spec_messages.specs.Message.{Message, of_request}
 use Rattle.spec_records.specs.Records.{Record}
 use Rattle.context_store.specs.Stores.{Stored}
-use Rattle.context_store.specs.declared.faults.OpenFault.{OpenFault}
-use Rattle.context_store.specs.declared.faults.OpenFault.TheVariants as opening
 use Rattle.context_calls.specs.Changes.{Nothing, CallBy, with_room, PutBy}
-use Rattle.spec_exchange.specs.Refusals as spec
+use Rattle.spec_exchange.specs.Limits.{many_records}
+use Rattle.spec_exchange.specs.SendingRefusals.{Refusal, Beyond}
+use Rattle.spec_exchange.specs.Outside.{Cause}
 use Rattle.spec_exchange.specs.Calls.{Sealed, Asks, sent_record, protected, sends}
-use Rattle.sending_sepp.specs.Sending.{Tells}
+use Rattle.sending_sepp.specs.Sending.{told, told_cause}
 use Rattle.sending_sepp.specs.declared.checks.Checked.{Checked}
-use Rattle.sending_sepp.specs.declared.fault.SendFault.{SendFault}
-use Rattle.sending_sepp.specs.declared.fault.SendFault.TheVariants as faults
+use Rattle.sending_sepp.specs.declared.fault.CheckFault.{CheckFault}
+use Rattle.sending_sepp.specs.declared.fault.ProtectFault.{ProtectFault}
+use Rattle.sending_sepp.specs.declared.fault.ProtectFault.TheVariants as protecting
 
 -- ---- sending
 
 -- the document is the one that is sealed, and a refusal the one that is wanted
-abbrev pub Answers : Result Tree SendFault → Result Sealed spec.Refusal → Type 0
+abbrev pub Answers : Result Tree ProtectFault → Result Sealed (Cause Refusal) → Type 0
 Answers (Ok t) wanted = (s : Sealed) × (wanted ≡ Ok s) × (t ≡ s.document)
-Answers (Err e) wanted = Tells e wanted
+Answers (Err e) wanted = Tells (told_cause e) wanted
 
 -- the request is sent over the records of the store, once it is read, under some choice of the keeper
-abbrev pub Protects : (held now : Option (List (List ℕ))) (old new : Stored) (node : List ℕ) (id : ℕ) → Message → Result Tree SendFault → Type 0
-Protects held now old new node id m (Err faults.NoMemory) = Nothing held now old new
+abbrev pub Protects : (held now : Option (List (List ℕ))) (old new : Stored) (node : List ℕ) (id : ℕ) → Message → Result Tree ProtectFault → Type 0
+Protects held now old new node id m (Err protecting.NoMemory) = Nothing held now old new
 Protects held now old new node id m result = CallBy (λ f records. sends f records node id Asks m) (Answers result) held now old new
 
 -- ---- its parts
-
--- why a store isn't read
-abbrev pub fault_of : OpenFault → SendFault
-fault_of (opening.Journal number) = faults.Journal number
-fault_of opening.Keeper = faults.Keeper
-fault_of opening.NoMemory = faults.NoMemory
 
 -- what is sealed. A request's id is its sequence number
 abbrev pub sealed_view : (node : List ℕ) (id : ℕ) → Checked → Sealed
@@ -47,21 +43,11 @@ sealed_view node id c = record {
 }
 
 -- the sealed request or the first refusal, but for the limit on records
-abbrev pub ChecksOut : List Record → (node : List ℕ) (id : ℕ) → Message → Result Checked SendFault → Type 0
-ChecksOut records node id m (Ok c) = protected records node id Asks m ≡ with_room records (sealed_view node id c)
-ChecksOut records node id m (Err e) = Tells e (protected records node id Asks m)
+abbrev pub ChecksOut : List Record → (node : List ℕ) (id : ℕ) → Message → Result Checked CheckFault → Type 0
+ChecksOut records node id m (Ok c) = protected records node id Asks m ≡ with_room (Beyond many_records) records (sealed_view node id c)
+ChecksOut records node id m (Err e) = Tells (told e) (protected records node id Asks m)
 
 -- the record of what is sealed is put over the records of a fresh store
-abbrev pub Records : (held now : Option (List (List ℕ))) (old new : Stored) → Sealed → Result Tree SendFault → Type 0
-Records held now old new s (Err faults.NoMemory) = Nothing held now old new
-Records held now old new s result = PutBy sent_record (Answers result) held now old new s
-
--- the refusals of the checks
-abbrev pub IsOfChecks : SendFault → Type 0
-IsOfChecks (faults.Journal number) = ⊥
-IsOfChecks faults.ContextNotFound = ⊤
-IsOfChecks faults.NoKeys = ⊤
-IsOfChecks faults.SeqSpent = ⊤
-IsOfChecks (faults.Limit name) = ⊤
-IsOfChecks faults.Keeper = ⊥
-IsOfChecks faults.NoMemory = ⊤
+abbrev pub Records : (held now : Option (List (List ℕ))) (old new : Stored) → Sealed → Result Tree ProtectFault → Type 0
+Records held now old new s (Err protecting.NoMemory) = Nothing held now old new
+Records held now old new s result = PutBy (Beyond many_records) sent_record (Answers result) held now old new s

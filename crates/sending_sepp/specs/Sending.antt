@@ -1,32 +1,53 @@
--- What the program answers, in the words of the definitions.
-use Rattle.std.specs.Prelude.{◌≡◌, ⊤, Result, Ok, Err}
+-- What the program answers in place of a document, in the words of the definitions.
+use Rattle.std.specs.Prelude.{Option, Some, None}
 use Rattle.block_forms.specs.declared.fault.LimitName.{LimitName}
 use Rattle.block_forms.specs.declared.fault.LimitName.TheVariants as limits
-use Rattle.spec_exchange.specs.Refusals as spec
+use Rattle.context_store.specs.declared.faults.OpenFault.{OpenFault}
+use Rattle.context_store.specs.declared.faults.OpenFault.TheVariants as opening
+use Rattle.spec_exchange.specs.Limits.{Limit, many_headers, many_items, many_values, long_block, full_wire, long_document, many_records}
+use Rattle.spec_exchange.specs.SendingRefusals as spec
+use Rattle.spec_exchange.specs.Outside.{Cause, Own, Outside}
+use Rattle.spec_exchange.specs.Outside as outside
 use Rattle.sending_sepp.specs.declared.fault.SendFault.{SendFault}
 use Rattle.sending_sepp.specs.declared.fault.SendFault.TheVariants as faults
+use Rattle.sending_sepp.specs.declared.fault.CheckFault.{CheckFault}
+use Rattle.sending_sepp.specs.declared.fault.CheckFault.TheVariants as checking
+use Rattle.sending_sepp.specs.declared.fault.ProtectFault.{ProtectFault}
+use Rattle.sending_sepp.specs.declared.fault.ProtectFault.TheVariants as protecting
 
--- the limit of this name is the one that is passed. The limits of the wire and of an alteration are none of sending
-abbrev pub TellsLimit : {X : Type 0} → LimitName → Result X spec.Refusal → Type 0
-TellsLimit limits.Headers wanted = wanted ≡ Err (spec.Beyond spec.many_headers)
-TellsLimit limits.Payload wanted = wanted ≡ Err (spec.Beyond spec.many_items)
-TellsLimit limits.Values wanted = wanted ≡ Err (spec.Beyond spec.many_values)
-TellsLimit limits.Block wanted = wanted ≡ Err (spec.Beyond spec.long_block)
-TellsLimit limits.Wire wanted = ⊥
-TellsLimit limits.Alter wanted = ⊥
-TellsLimit limits.Records wanted = wanted ≡ Err (spec.Beyond spec.many_records)
+abbrev pub limit_view : LimitName → Limit
+limit_view limits.Headers = many_headers
+limit_view limits.Payload = many_items
+limit_view limits.Values = many_values
+limit_view limits.Block = long_block
+limit_view limits.Wire = full_wire
+limit_view limits.Alter = long_document
+limit_view limits.Records = many_records
 
--- the refusal is the one that is wanted, or memory was refused
-abbrev pub Tells : {X : Type 0} → SendFault → Result X spec.Refusal → Type 0
-Tells (faults.Journal number) wanted = wanted ≡ Err (spec.Journal number)
-Tells faults.ContextNotFound wanted = wanted ≡ Err spec.ContextNotFound
-Tells faults.NoKeys wanted = wanted ≡ Err spec.NoKeys
-Tells faults.SeqSpent wanted = wanted ≡ Err spec.SeqSpent
-Tells (faults.Limit name) wanted = TellsLimit name wanted
-Tells faults.Keeper wanted = wanted ≡ Err spec.Keeper
-Tells faults.NoMemory wanted = ⊤
+abbrev pub refusal_view : SendFault → spec.Refusal
+refusal_view faults.ContextNotFound = spec.ContextNotFound
+refusal_view faults.NoKeys = spec.NoKeys
+refusal_view faults.SeqSpent = spec.SeqSpent
+refusal_view (faults.Limit name) = spec.Beyond (limit_view name)
 
--- what is given is what the definition gives, unless memory was refused
-abbrev pub Gives : {A B : Type 0} → (A → B) → Result A SendFault → Result B spec.Refusal → Type 0
-Gives view (Ok x) wanted = wanted ≡ Ok (view x)
-Gives view (Err e) wanted = Tells e wanted
+-- the refusal that is told, where memory sufficed
+abbrev pub told : CheckFault → Option spec.Refusal
+told (checking.Refused fault) = Some (refusal_view fault)
+told checking.NoMemory = None
+
+abbrev pub told_cause : ProtectFault → Option (Cause spec.Refusal)
+told_cause (protecting.Refused fault) = Some (Own (refusal_view fault))
+told_cause (protecting.Journal number) = Some (Outside (outside.Journal number))
+told_cause protecting.Keeper = Some (Outside outside.Keeper)
+told_cause protecting.NoMemory = None
+
+-- a fault of the checks, as one of the call
+abbrev pub of_check : CheckFault → ProtectFault
+of_check (checking.Refused fault) = protecting.Refused fault
+of_check checking.NoMemory = protecting.NoMemory
+
+-- a store that isn't read
+abbrev pub of_opening : OpenFault → ProtectFault
+of_opening (opening.Journal number) = protecting.Journal number
+of_opening opening.Keeper = protecting.Keeper
+of_opening opening.NoMemory = protecting.NoMemory

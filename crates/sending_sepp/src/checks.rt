@@ -1,22 +1,23 @@
 // The checks of a request that is to be sent, in their order.
-ghost use Rattle.std.specs.Prelude.{◌≡◌, ◌≤◌, IfErr, IfOk, IsTrue, OnOk};
+ghost use Rattle.std.specs.Prelude.{◌≡◌, ◌≤◌, IfOk, IsTrue, OnOk};
+ghost use Rattle.spec_documents.specs.Gives.{Gives};
 ghost use Rattle.spec_documents.specs.Text.{is_node_name};
 ghost use Rattle.spec_messages.specs.Message.{is_whole, body_depth, of_request, wanted};
 ghost use Rattle.spec_records.specs.Records as spec;
 ghost use Rattle.spec_records.specs.RecordDocument.{are_ipx};
 ghost use Rattle.http_message.specs.Reading.{message_view};
 ghost use Rattle.context_records.specs.View.{context_view, key_set_view};
-ghost use Rattle.spec_exchange.specs.Refusals as refusals;
-ghost use Rattle.sending_sepp.specs.Sending.{Gives};
-ghost use Rattle.sending_sepp.specs.Outcome.{ChecksOut, IsOfChecks};
+ghost use Rattle.spec_exchange.specs.SendingRefusals as refusals;
+ghost use Rattle.sending_sepp.specs.Sending.{told};
+ghost use Rattle.sending_sepp.specs.Outcome.{ChecksOut};
 
-use crate::fault::SendFault;
+use crate::fault::{CheckFault, SendFault};
 use crate::sealing::sent_document;
 use context_calls::{keys_fit_suite, mapping_for};
+use context_records::{Context, KeySet};
 use context_store::Store;
 use http_message::{Kind, Message};
 use n32_values::{Doc, Hex64, Text};
-use context_records::{Context, KeySet};
 use std::alloc::Global;
 
 /// A sealed request, and what its record says.
@@ -27,35 +28,32 @@ pub(crate) struct Checked {
     pub(crate) mapping: Option<u32>,
 }
 
-fn context_of<'a>(store: &'a Store, node: &Text, id: Hex64) -> Result<&'a Context, SendFault>
-    ensures value { Gives (λ x. context_view x.now) result (wanted (spec.open_context node.now id.value store.now.records) refusals.ContextNotFound) }
-    ensures kind { IfErr result IsOfChecks }
+fn context_of<'a>(store: &'a Store, node: &Text, id: Hex64) -> Result<&'a Context, CheckFault>
+    ensures value { Gives told (λ x. context_view x.now) result (wanted (spec.open_context node.now id.value store.now.records) refusals.ContextNotFound) }
     ensures node { OnOk result (IsTrue (is_node_name node.now)) }
     ensures own_ipx { IfOk result (λ x. IsTrue (are_ipx (context_view x.now).own_ipx)) }
 {
     match store.context(node, id) {
         Some(context) => Ok(context),
-        None => Err(SendFault::ContextNotFound),
+        None => Err(CheckFault::Refused(SendFault::ContextNotFound)),
     }
 }
 
-fn keys_of<'a>(store: &'a Store, node: &Text, id: Hex64) -> Result<&'a KeySet, SendFault>
-    ensures value { Gives (λ k. key_set_view k.now) result (wanted (spec.keys node.now id.value store.now.records) refusals.NoKeys) }
-    ensures kind { IfErr result IsOfChecks }
+fn keys_of<'a>(store: &'a Store, node: &Text, id: Hex64) -> Result<&'a KeySet, CheckFault>
+    ensures { Gives told (λ k. key_set_view k.now) result (wanted (spec.keys node.now id.value store.now.records) refusals.NoKeys) }
 {
     match store.keys(node, id) {
         Some(keys) => Ok(keys),
-        None => Err(SendFault::NoKeys),
+        None => Err(CheckFault::Refused(SendFault::NoKeys)),
     }
 }
 
-fn next_number(store: &Store, node: &Text, id: Hex64) -> Result<u32, SendFault>
-    ensures value { Gives (λ n. n) result (wanted (spec.next_seq node.now id.value of_request store.now.records) refusals.SeqSpent) }
-    ensures kind { IfErr result IsOfChecks }
+fn next_number(store: &Store, node: &Text, id: Hex64) -> Result<u32, CheckFault>
+    ensures { Gives told (λ n. n) result (wanted (spec.next_seq node.now id.value of_request store.now.records) refusals.SeqSpent) }
 {
     match store.next_seq(node, id, Kind::Request) {
         Some(seq) => Ok(seq),
-        None => Err(SendFault::SeqSpent),
+        None => Err(CheckFault::Refused(SendFault::SeqSpent)),
     }
 }
 
@@ -67,11 +65,10 @@ pub(crate) fn check(
     node: &Text,
     id: Hex64,
     request: &Message,
-) -> Result<Checked, SendFault>
+) -> Result<Checked, CheckFault>
     requires whole { IsTrue (is_whole (message_view request.now)) }
     requires shallow { body_depth (message_view request.now).body ≤ 64 }
     ensures checks { ChecksOut store.now.records node.now id.value (message_view request.now) result }
-    ensures kind { IfErr result IsOfChecks }
     ensures node { OnOk result (IsTrue (is_node_name node.now)) }
 {
     keys_fit_suite();

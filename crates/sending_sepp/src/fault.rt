@@ -1,12 +1,17 @@
-// Why a message isn't sent.
-use block_forms::LimitName;
-use n32_values::NoMemory;
+// Why a message isn't sent, and what stops a call: a refusal, a fault of the outside, or want of memory.
+ghost use Rattle.std.specs.Prelude.{◌≡◌, IfOk};
+ghost use Rattle.spec_exchange.specs.Limits as limits;
+ghost use Rattle.spec_exchange.specs.SendingRefusals as spec;
+ghost use Rattle.sending_sepp.specs.Sending.{limit_view, refusal_view};
 
-/// Why a message isn't sent, in the order of the checks.
+use block_forms::LimitName;
+use context_store::OpenFault;
+use n32_values::{NoMemory, Text};
+use std::alloc::Global;
+
+/// Why a message isn't sent. The first that holds counts, in this order.
 #[derive(Clone, Copy, Debug, PartialEq, Eq, Drop)]
 pub enum SendFault {
-    /// The held record of this number is none, or stands past the limit.
-    Journal(u64),
     /// The node has no open context of that id.
     ContextNotFound,
     /// The context has no keys.
@@ -15,19 +20,131 @@ pub enum SendFault {
     SeqSpent,
     /// The first limit that is passed: of `Headers`, `Payload`, `Values`, `Block` and `Records`.
     Limit(LimitName),
+}
+
+/// Why the checks of a message come to no document.
+#[derive(Clone, Copy, Debug, PartialEq, Eq, Drop)]
+pub(crate) enum CheckFault {
+    /// A check refuses it.
+    Refused(SendFault),
+    /// Memory was refused.
+    NoMemory,
+}
+
+/// Why protecting a message gives no document.
+#[derive(Clone, Copy, Debug, PartialEq, Eq, Drop)]
+pub enum ProtectFault {
+    /// The message is refused.
+    Refused(SendFault),
+    /// The held record of this number is none, or stands past the limit.
+    Journal(u64),
     /// The keeper failed, in reading the records or in keeping the last.
     Keeper,
     /// Memory was refused.
     NoMemory,
 }
 
-impl From<NoMemory> for SendFault {
+/// The name of what there is too much of, in an answer.
+pub fn limit_name(limit: LimitName) -> &'static str
+    ensures { result.now ≡ limits.limit_name (limit_view limit) }
+{
+    match limit {
+        LimitName::Headers => "headers",
+        LimitName::Payload => "payload",
+        LimitName::Values => "values",
+        LimitName::Block => "block",
+        LimitName::Wire => "wire",
+        LimitName::Alter => "alter",
+        LimitName::Records => "records",
+    }
+}
+
+impl SendFault {
+    /// The number that stands for the refusal in an answer.
+    pub fn number(&self) -> u64
+        ensures { result ≡ (spec.telling (refusal_view self.now)).number }
+    {
+        match self {
+            SendFault::ContextNotFound => 10,
+            SendFault::NoKeys => 11,
+            SendFault::SeqSpent => 12,
+            SendFault::Limit(_) => 7,
+        }
+    }
+
+    /// The refusal's name in an answer.
+    pub fn name(&self) -> &'static str
+        ensures { result.now ≡ (spec.telling (refusal_view self.now)).name }
+    {
+        match self {
+            SendFault::ContextNotFound => "CONTEXT_NOT_FOUND",
+            SendFault::NoKeys => "NO_KEYS",
+            SendFault::SeqSpent => "SEQ_SPENT",
+            SendFault::Limit(_) => "LIMIT",
+        }
+    }
+
+    /// What the refusal names besides: a limit, where one is passed.
+    ///
+    /// # Errors
+    /// `NoMemory` where memory was refused.
+    pub fn detail(&self, alloc: Global) -> Result<Option<Text>, NoMemory>
+        ensures { IfOk result (λ d. d ≡ (spec.telling (refusal_view self.now)).detail) }
+    {
+        match self {
+            SendFault::Limit(limit) => Ok(Some(Text::from_text(alloc, limit_name(*limit))?)),
+            _ => Ok(None),
+        }
+    }
+}
+
+impl From<NoMemory> for CheckFault {
     ghost use Rattle.std.specs.Prelude.{◌≡◌};
-    ghost use Rattle.sending_sepp.specs.declared.fault.SendFault.TheVariants.{NoMemory as refused_memory};
+    ghost use Rattle.sending_sepp.specs.declared.fault.CheckFault.TheVariants.{NoMemory as refused_memory};
 
     ghost from_gives = { λ _ e. e ≡ refused_memory };
 
-    fn from(_refused: NoMemory) -> SendFault {
-        SendFault::NoMemory
+    fn from(_refused: NoMemory) -> CheckFault {
+        CheckFault::NoMemory
+    }
+}
+
+impl From<NoMemory> for ProtectFault {
+    ghost use Rattle.std.specs.Prelude.{◌≡◌};
+    ghost use Rattle.sending_sepp.specs.declared.fault.ProtectFault.TheVariants.{NoMemory as refused_memory};
+
+    ghost from_gives = { λ _ e. e ≡ refused_memory };
+
+    fn from(_refused: NoMemory) -> ProtectFault {
+        ProtectFault::NoMemory
+    }
+}
+
+impl From<CheckFault> for ProtectFault {
+    ghost use Rattle.std.specs.Prelude.{◌≡◌};
+    ghost use Rattle.sending_sepp.specs.Sending.{of_check};
+
+    ghost from_gives = { λ fault e. e ≡ of_check fault };
+
+    fn from(fault: CheckFault) -> ProtectFault {
+        match fault {
+            CheckFault::Refused(refused) => ProtectFault::Refused(refused),
+            CheckFault::NoMemory => ProtectFault::NoMemory,
+        }
+    }
+}
+
+impl From<OpenFault> for ProtectFault {
+    ghost use Rattle.std.specs.Prelude.{◌≡◌};
+    ghost use Rattle.sending_sepp.specs.Sending.{of_opening};
+
+    ghost from_gives = { λ fault e. e ≡ of_opening fault };
+
+    fn from(fault: OpenFault) -> ProtectFault {
+        match fault {
+            OpenFault::Journal(number) => ProtectFault::Journal(number),
+            OpenFault::Keeper => ProtectFault::Keeper,
+            OpenFault::NoMemory => ProtectFault::NoMemory,
+        }
     }
 }

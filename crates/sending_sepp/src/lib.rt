@@ -10,7 +10,7 @@ mod sealing;
 mod sending;
 mod splitting;
 
-pub use fault::SendFault;
+pub use fault::{ProtectFault, SendFault, limit_name};
 pub use sending::protect;
 
 #[cfg(test)]

@@ -7,13 +7,13 @@ ghost use Rattle.context_store.specs.Stores.{IsConsistent};
 ghost use Rattle.sending_sepp.specs.Outcome.{Records, sealed_view};
 
 use crate::checks::Checked;
-use crate::fault::SendFault;
+use crate::fault::{ProtectFault, SendFault};
 use block_forms::LimitName;
+use context_records::Record;
 use context_store::{AddFault, Store};
 use http_message::Kind;
 use n32_outside::Keeper;
 use n32_values::{Doc, Hex64, Text};
-use context_records::Record;
 use std::alloc::Global;
 
 /// Puts the record of a sealed request, and hands out its document.
@@ -24,15 +24,15 @@ pub(crate) fn record_sent<K: Keeper>(
     node: &Text,
     id: Hex64,
     checked: Checked,
-) -> Result<Doc, SendFault>
+) -> Result<Doc, ProtectFault>
     requires consistent { IsConsistent (K.held keeper.old) store.old }
     requires fresh { store.old.fresh ≡ true }
     requires named { IsTrue (is_node_name node.now) }
     ensures records { Records (K.held keeper.old) (K.held keeper.new) store.old store.new (sealed_view node.now id.value checked) result }
-    ensures room { IsErrOf result SendFault.Keeper → length store.old.records < record_limit }
+    ensures room { IsErrOf result ProtectFault.Keeper → length store.old.records < record_limit }
     ensures consistent { IsConsistent (K.held keeper.new) store.new }
     ensures later { K.faults keeper.old ≤ K.faults keeper.new }
-    ensures failed { IsErrOf result SendFault.Keeper → Rose (K.faults keeper.old) (K.faults keeper.new) }
+    ensures failed { IsErrOf result ProtectFault.Keeper → Rose (K.faults keeper.old) (K.faults keeper.new) }
 {
     let item = Record::Sent {
         node: node.copy(alloc)?,
@@ -46,8 +46,8 @@ pub(crate) fn record_sent<K: Keeper>(
     };
     match store.add(alloc, keeper, item) {
         Ok(_) => Ok(checked.document),
-        Err(AddFault::Limit) => Err(SendFault::Limit(LimitName::Records)),
-        Err(AddFault::Keeper) => Err(SendFault::Keeper),
-        Err(AddFault::NoMemory) => Err(SendFault::NoMemory),
+        Err(AddFault::Limit) => { Err(ProtectFault::Refused(SendFault::Limit(LimitName::Records))) }
+        Err(AddFault::Keeper) => Err(ProtectFault::Keeper),
+        Err(AddFault::NoMemory) => Err(ProtectFault::NoMemory),
     }
 }

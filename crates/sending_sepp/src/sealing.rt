@@ -1,5 +1,6 @@
 // The document of a request.
-ghost use Rattle.std.specs.Prelude.{◌≡◌, ◌≤◌, IfErr, IfOk, IsTrue, length};
+ghost use Rattle.std.specs.Prelude.{◌≡◌, ◌≤◌, IfOk, IsTrue, length};
+ghost use Rattle.spec_documents.specs.Gives.{Gives};
 ghost use Rattle.spec_documents.specs.Compact.{compact_text};
 ghost use Rattle.spec_messages.specs.Message.{is_whole, body_depth, of_request};
 ghost use Rattle.spec_messages.specs.Policy.{values};
@@ -11,21 +12,20 @@ ghost use Rattle.spec_exchange.specs.Calls.{sealed_document, send_key as key_to_
 ghost use Rattle.spec_exchange.specs.Chain.{none_of};
 ghost use Rattle.spec_exchange.specs.Jwe.{carrier, content_key, nonce, sealed};
 ghost use Rattle.spec_exchange.specs.Rebuilding.{plaintext};
-ghost use Rattle.spec_exchange.specs.Refusals as refusals;
-ghost use Rattle.sending_sepp.specs.Outcome.{IsOfChecks};
-ghost use Rattle.sending_sepp.specs.Sending.{Gives};
+ghost use Rattle.spec_exchange.specs.SendingRefusals as refusals;
+ghost use Rattle.sending_sepp.specs.Sending.{told};
 
-use crate::fault::SendFault;
+use crate::fault::CheckFault;
 use crate::metadata::metadata_for;
 use crate::splitting::split_message;
 use context_calls::{send_key, send_nonce};
+use context_records::{Context, KeySet};
 use http_message::{Kind, Message};
 use jwe_flat::{Suite, seal_jwe};
 use n32_values::{Doc, Hex64, NoMemory, doc_text};
 use prins_document::wire_doc;
 use reformat_blocks::Split;
 use sealed_values::values_text;
-use context_records::{Context, KeySet};
 use spec_exchange::readings::jwes_are_computed;
 use std::alloc::Global;
 
@@ -52,13 +52,12 @@ pub(crate) fn sent_document(
     mapping: Option<u32>,
     seq: u32,
     message: &Message,
-) -> Result<Doc, SendFault>
+) -> Result<Doc, CheckFault>
     requires fits { IsTrue (keys_fit (suite_view context.now.suite) (key_set_view keys.now)) }
     requires own_ipx { IsTrue (are_ipx (context_view context.now).own_ipx) }
     requires whole { IsTrue (is_whole (message_view message.now)) }
     requires shallow { body_depth (message_view message.now).body ≤ 64 }
-    ensures kind { IfErr result IsOfChecks }
-    ensures limit { Gives (λ _. tt) result (none_of refusals.Beyond (split_limit (sent_block_of (context_view context.now) mapping seq (message_view message.now)) (length (values context.now.policy mapping (message_view message.now))))) }
+    ensures limit { Gives told (λ _. tt) result (none_of refusals.Beyond (split_limit (sent_block_of (context_view context.now) mapping seq (message_view message.now)) (length (values context.now.policy mapping (message_view message.now))))) }
     ensures document { IfOk result (λ d. d ≡ sealed_document (context_view context.now) (key_to_send of_request (key_set_view keys.now)) seq (sent_block_of (context_view context.now) mapping seq (message_view message.now)) (values context.now.policy mapping (message_view message.now))) }
 {
     let id = Hex64 {

@@ -5,26 +5,16 @@ ghost use Rattle.n32_outside.specs.Causes.{Rose};
 ghost use Rattle.http_message.specs.Reading.{message_view};
 ghost use Rattle.context_store.specs.Stores.{IsConsistent};
 ghost use Rattle.spec_exchange.specs.Calls.{Asks, protected};
-ghost use Rattle.sending_sepp.specs.Outcome.{Protects, fault_of};
+ghost use Rattle.sending_sepp.specs.Outcome.{Protects};
 
 use crate::checks::check;
-use crate::fault::SendFault;
+use crate::fault::ProtectFault;
 use crate::recording::record_sent;
-use context_store::{OpenFault, Store};
+use context_store::Store;
 use http_message::Message;
 use n32_outside::Keeper;
 use n32_values::{Doc, Hex64, Text};
 use std::alloc::Global;
-
-fn unread(fault: OpenFault) -> SendFault
-    ensures { result ≡ fault_of fault }
-{
-    match fault {
-        OpenFault::Journal(number) => SendFault::Journal(number),
-        OpenFault::Keeper => SendFault::Keeper,
-        OpenFault::NoMemory => SendFault::NoMemory,
-    }
-}
 
 /// Protects a request under the context of that id at the node, and records that it was sent: the answer is
 /// the document to send (TS 33.501 clauses 13.2.4.4 and 13.2.4.5 in outline). The request must be a whole one
@@ -43,7 +33,7 @@ pub fn protect<K: Keeper>(
     node: &Text,
     id: Hex64,
     request: &Message,
-) -> Result<Doc, SendFault>
+) -> Result<Doc, ProtectFault>
     requires consistent { IsConsistent (K.held keeper.old) store.old }
     requires whole { IsTrue (is_whole (message_view request.now)) }
     requires shallow { body_depth (message_view request.now).body ≤ 64 }
@@ -51,12 +41,10 @@ pub fn protect<K: Keeper>(
     ensures protects { Protects (K.held keeper.old) (K.held keeper.new) store.old store.new node.now id.value (message_view request.now) result }
     ensures consistent { IsConsistent (K.held keeper.new) store.new }
     ensures later { K.faults keeper.old ≤ K.faults keeper.new }
-    ensures failed { IsErrOf result SendFault.Keeper → Rose (K.faults keeper.old) (K.faults keeper.new) }
-    ensures last { IsErrOf result SendFault.Keeper → store.old.fresh ≡ true → IsOk (protected store.old.records node.now id.value Asks (message_view request.now)) }
+    ensures failed { IsErrOf result ProtectFault.Keeper → Rose (K.faults keeper.old) (K.faults keeper.new) }
+    ensures last { IsErrOf result ProtectFault.Keeper → store.old.fresh ≡ true → IsOk (protected store.old.records node.now id.value Asks (message_view request.now)) }
 {
-    if let Err(fault) = store.refresh(alloc, keeper) {
-        return Err(unread(fault));
-    }
+    store.refresh(alloc, keeper)?;
     let checked = check(alloc, store, node, id, request)?;
     record_sent(alloc, store, keeper, node, id, checked)
 }

@@ -1,5 +1,6 @@
 // The block of a message and its values.
-ghost use Rattle.std.specs.Prelude.{◌≡◌, ◌≤◌, IfErr, IfOk, IsTrue, length};
+ghost use Rattle.std.specs.Prelude.{◌≡◌, ◌≤◌, IfOk, IsTrue, length};
+ghost use Rattle.spec_documents.specs.Gives.{Gives};
 ghost use Rattle.spec_messages.specs.Block.{is_meta, block_of, block_tree};
 ghost use Rattle.spec_messages.specs.Message.{is_whole, body_depth};
 ghost use Rattle.spec_messages.specs.Policy.{values};
@@ -8,11 +9,10 @@ ghost use Rattle.http_message.specs.Reading.{message_view};
 ghost use Rattle.block_forms.specs.Metadata.{meta_view};
 ghost use Rattle.spec_exchange.specs.Calls.{split_limit};
 ghost use Rattle.spec_exchange.specs.Chain.{none_of};
-ghost use Rattle.spec_exchange.specs.Refusals as refusals;
-ghost use Rattle.sending_sepp.specs.Outcome.{IsOfChecks};
-ghost use Rattle.sending_sepp.specs.Sending.{Gives};
+ghost use Rattle.spec_exchange.specs.SendingRefusals as refusals;
+ghost use Rattle.sending_sepp.specs.Sending.{told};
 
-use crate::fault::SendFault;
+use crate::fault::{CheckFault, SendFault};
 use block_forms::Meta;
 use http_message::Message;
 use policy_tables::Policy;
@@ -26,18 +26,17 @@ pub(crate) fn split_message(
     mapping: Option<u32>,
     message: &Message,
     meta: Meta,
-) -> Result<Split, SendFault>
+) -> Result<Split, CheckFault>
     requires whole { IsTrue (is_whole (message_view message.now)) }
     requires shallow { body_depth (message_view message.now).body ≤ 64 }
     requires meta { IsTrue (is_meta (meta_view meta)) }
-    ensures kind { IfErr result IsOfChecks }
-    ensures limit { Gives (λ _. tt) result (none_of refusals.Beyond (split_limit (block_of (cleared policy.now mapping (message_view message.now)) (meta_view meta)) (length (values policy.now mapping (message_view message.now))))) }
+    ensures limit { Gives told (λ _. tt) result (none_of refusals.Beyond (split_limit (block_of (cleared policy.now mapping (message_view message.now)) (meta_view meta)) (length (values policy.now mapping (message_view message.now))))) }
     ensures block { IfOk result (λ s. s.block ≡ block_tree (block_of (cleared policy.now mapping (message_view message.now)) (meta_view meta))) }
     ensures values { IfOk result (λ s. s.values ≡ values policy.now mapping (message_view message.now)) }
 {
     match split(alloc, policy, mapping, message, meta) {
         Ok(parts) => Ok(parts),
-        Err(SplitFault::Limit(name)) => Err(SendFault::Limit(name)),
-        Err(SplitFault::NoMemory) => Err(SendFault::NoMemory),
+        Err(SplitFault::Limit(name)) => Err(CheckFault::Refused(SendFault::Limit(name))),
+        Err(SplitFault::NoMemory) => Err(CheckFault::NoMemory),
     }
 }

@@ -3,7 +3,7 @@ ghost use Rattle.spec_messages.specs.Message.{is_whole, body_depth, kind_of, of_
 ghost use Rattle.http_message.specs.Reading.{message_view};
 ghost use Rattle.context_store.specs.Stores.{IsConsistent};
 
-use crate::{SendFault, protect};
+use crate::{ProtectFault, SendFault, protect};
 use aes_block::Key128;
 use block_forms::LimitName;
 use context_store::{Store, new_store};
@@ -72,7 +72,7 @@ fn answer<K: Keeper>(
     keeper: &mut K,
     text: &[u8],
     id: u64,
-) -> Result<Result<Doc, SendFault>, Fail>
+) -> Result<Result<Doc, ProtectFault>, Fail>
     requires { IsConsistent (K.held keeper.old) store.old }
     ensures { IsConsistent (K.held keeper.new) store.new }
 {
@@ -88,13 +88,13 @@ fn first_answer(
     texts: &[&[u8]],
     text: &[u8],
     id: u64,
-) -> Result<Result<Doc, SendFault>, Fail> {
+) -> Result<Result<Doc, ProtectFault>, Fail> {
     let mut keeper = keeper_of(alloc, texts, FailList::new(alloc))?;
     let mut store = new_store(alloc);
     answer(alloc, &mut store, &mut keeper, text, id)
 }
 
-fn sent(alloc: Global, answer: Result<Doc, SendFault>) -> Result<WireDoc, Fail> {
+fn sent(alloc: Global, answer: Result<Doc, ProtectFault>) -> Result<WireDoc, Fail> {
     let document = answer.ok().ok_or("refused")?;
     Ok(read_wire_doc(alloc, &document).ok().ok_or("form")?)
 }
@@ -125,7 +125,7 @@ fn sent_last(alloc: Global) -> Result<WireDoc, Fail> {
     let mut store = new_store(alloc);
     let first = answer(alloc, &mut store, &mut keeper, REQUEST, 161)?;
     let again = answer(alloc, &mut store, &mut keeper, REQUEST, 161)?;
-    if again.err() != Some(SendFault::SeqSpent) {
+    if again.err() != Some(ProtectFault::Refused(SendFault::SeqSpent)) {
         return Err("sent again".into());
     }
     sent(alloc, first)
@@ -149,7 +149,7 @@ fn sent_after_failed_put(alloc: Global, keeps: bool) -> Result<WireDoc, Fail> {
     let mut keeper = keeper_of(alloc, &[OPENED, KEYED], fails)?;
     let mut store = new_store(alloc);
     let first = answer(alloc, &mut store, &mut keeper, REQUEST, 161)?;
-    if first.err() != Some(SendFault::Keeper) {
+    if first.err() != Some(ProtectFault::Keeper) {
         return Err("the put did not fail".into());
     }
     let again = answer(alloc, &mut store, &mut keeper, REQUEST, 161)?;
@@ -183,12 +183,12 @@ fn the_first_refusal_counts(rt: HostRuntime) -> Result<(), Fail> {
     let alloc = rt.alloc();
     let long = long_request(alloc)?;
     let answer = first_answer(alloc, &[OPENED, KEYED], &long, 161)?;
-    assert!(rt; answer.err() == Some(SendFault::Limit(LimitName::Headers)));
+    assert!(rt; answer.err() == Some(ProtectFault::Refused(SendFault::Limit(LimitName::Headers))));
     let answer = first_answer(alloc, &[KEYED, OPENED], &long, 161)?;
-    assert!(rt; answer.err() == Some(SendFault::NoKeys));
+    assert!(rt; answer.err() == Some(ProtectFault::Refused(SendFault::NoKeys)));
     let answer = first_answer(alloc, &[OPENED, KEYED], &long, 162)?;
-    assert!(rt; answer.err() == Some(SendFault::ContextNotFound));
+    assert!(rt; answer.err() == Some(ProtectFault::Refused(SendFault::ContextNotFound)));
     let answer = first_answer(alloc, &[OPENED, b"{}"], &long, 162)?;
-    assert!(rt; answer.err() == Some(SendFault::Journal(1)));
+    assert!(rt; answer.err() == Some(ProtectFault::Journal(1)));
     Ok(())
 }

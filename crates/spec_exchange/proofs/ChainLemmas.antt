@@ -1,13 +1,16 @@
 -- What an accepted document and a sealed message tell: each check before them held.
-use Rattle.std.proofs.Common.{◌≡◌, ℕ, ◌<◌, Bool, true, false, List, length, Option, Some, None, Result, Ok, Err, refl, ap, subst}
+use Rattle.std.proofs.Common.{◌≡◌, ℕ, ◌<◌, Bool, true, false, List, length, Option, Some, None, Result, Ok, Err, refl, ap, subst, ◌∙◌}
 use Rattle.std.proofs.lemmas.Bool.{leb-false}
 use Rattle.spec_documents.specs.Tree.{Tree}
 use Rattle.spec_messages.specs.Message.{Message, wanted}
 use Rattle.spec_records.specs.Records.{Record, record_limit, delivered_at, next_seq}
-use Rattle.spec_exchange.specs.Chain.{◌>>=◌, unless, none_of}
-use Rattle.spec_exchange.specs.Refusals.{Refusal}
-use Rattle.spec_exchange.specs.FirstFailed.{Delivery, first_failed}
-use Rattle.spec_exchange.specs.Outside.{Reading, Read, ReadFails, BadRecord, Putting, Kept, Lost, KeptUntold, puts, behind_reading, or_refusal}
+use Rattle.spec_exchange.specs.Chain.{◌>>=◌, unless, none_of, or_refused}
+use Rattle.spec_exchange.specs.Received.{Received, received}
+use Rattle.spec_exchange.specs.ReceivingRefusals.{Form}
+use Rattle.spec_exchange.specs.ReceivingRefusals as receiving
+use Rattle.spec_exchange.specs.SendingRefusals as sending
+use Rattle.spec_exchange.specs.FirstFailed.{Delivery, formed, first_failed}
+use Rattle.spec_exchange.specs.Outside.{Cause, Reading, Read, ReadFails, BadRecord, Putting, Kept, Lost, KeptUntold, puts, behind_reading, or_refusal}
 use Rattle.spec_exchange.specs.Calls.{Sealed, Outgoing, kind_of_outgoing, protected}
 
 pub none_ok : {X E : Type 0} (e : X → E) (o : Option X) (u : Unit {0}) → none_of e o ≡ Ok u → o ≡ None
@@ -39,26 +42,47 @@ pub record IsNew (records : List Record) (node : List ℕ) (d : Delivery) : Type
   pub never : delivered_at node d.id d.kind d.message records ≡ None
   pub room : length records < record_limit
 
-pub first_failed-ok : (records : List Record) (node : List ℕ) (t : Tree) (y : Delivery) → first_failed records node t ≡ Ok y → IsNew records node y
-first_failed-ok records node t y e =
+-- a delivery that passed all stages: of this document, new, and with room for its record
+pub record Passes (records : List Record) (node : List ℕ) (t : Tree) (y : Delivery) : Type 0 where
+  pub parts : Received
+  pub form : formed t ≡ Ok parts
+  pub id_is : y.id ≡ parts.context
+  pub new : IsNew records node y
+
+pub passes : (records : List Record) (node : List ℕ) (t : Tree) (y : Delivery) → first_failed records node t ≡ Ok y → Passes records node t y
+passes records node t y e =
     bind_then _ _ y e λ d e_form e1.
-    bind_then _ _ y e1 λ u1 e_later e2.
-    bind_then _ _ y e2 λ x e_open e3.
-    bind_then _ _ y e3 λ k e_keys e4.
-    bind_then _ _ y e4 λ u4 e_cipher e5.
-    bind_then _ _ y e5 λ plain e_plain e6.
-    bind_then _ _ y e6 λ u6 e_replay e7.
-    bind_then _ _ y e7 λ values e_values e8.
-    bind_then _ _ y e8 λ holed e_holed e9.
-    bind_then _ _ y e9 λ content e_content e10.
-    bind_then _ _ y e10 λ u10 e_clear e11.
-    bind_then _ _ y e11 λ u11 e_limit e12.
-    let P : Delivery → Type 0 = λ y. IsNew records node y in
-    subst P (ok_same {E = Refusal} _ y e12) (record {
-      node_is = refl;
-      never = none_ok _ _ u6 e_replay;
-      room = leb-false _ _ (unless_ok _ _ u11 e_limit);
+    bind_then _ _ y e1 λ c e_context e2.
+    bind_then _ _ y e2 λ plain e_opened e3.
+    bind_then _ _ y e3 λ u3 e_first e4.
+    bind_then _ _ y e4 λ m e_rebuilt e5.
+    bind_then _ _ y e5 λ u5 e_sealed e6.
+    bind_then _ _ y e6 λ u6 e_room e7.
+    let P : Delivery → Type 0 = λ y. Passes records node t y in
+    subst P (ok_same {E = receiving.Refusal} _ y e7) (record {
+      parts = d;
+      form = e_form;
+      id_is = refl;
+      new = record {
+        node_is = refl;
+        never = none_ok _ _ u3 e_first;
+        room = leb-false _ _ (unless_ok _ _ u6 e_room);
+      };
     })
+
+pub first_failed-ok : (records : List Record) (node : List ℕ) (t : Tree) (y : Delivery) → first_failed records node t ≡ Ok y → IsNew records node y
+first_failed-ok records node t y e = let p = passes records node t y e in p.new
+
+-- the parts of a document whose form is right
+pub formed-is : (t : Tree) (d : Received) → formed t ≡ Ok d → received t ≡ Ok d
+formed-is t d e =
+    bind_then _ _ d e λ x e_form e1.
+    bind_then _ _ d e1 λ u e_built e2.
+    of_form (received t) d (e_form ∙ ap (λ z. Ok z) (ok_same {E = receiving.Refusal} x d e2))
+  where
+    of_form : (r : Result Received (List ℕ)) (d : Received) → or_refused (λ m. Form m) r ≡ Ok d → r ≡ Ok d
+    of_form (Ok x) d e = cc
+    of_form (Err m) d e = cc
 
 -- ---- sending
 
@@ -79,7 +103,7 @@ protected-ok records node id o m y e =
     bind_then _ _ y e4 λ u4 e_split e5.
     bind_then _ _ y e5 λ u5 e_limit e6.
     let P : Sealed → Type 0 = λ y. IsNext records node id o y in
-    subst P (ok_same {E = Refusal} _ y e6) (record {
+    subst P (ok_same {E = sending.Refusal} _ y e6) (record {
       node_is = refl;
       id_is = refl;
       kind_is = refl;
@@ -90,10 +114,10 @@ protected-ok records node id o m y e =
 -- ---- calls that put one record
 
 -- a call that answers Ok has put its record
-pub puts-ok : {X : Type 0} (reading : Reading) (r : Result X Refusal) (p : Putting) (item : X → Record) (x : X)
+pub puts-ok : {X R : Type 0} (reading : Reading) (r : Result X R) (p : Putting) (item : X → Record) (x : X)
     → (behind_reading reading (or_refusal r (λ y. puts p (item y) y))).result ≡ Ok x
     → (r ≡ Ok x) × ((behind_reading reading (or_refusal r (λ y. puts p (item y) y))).put ≡ Some (item x))
-puts-ok Read (Ok y) Kept item x e = (e, ap (λ z. Some (item z)) (ok_same {E = Refusal} y x e))
+puts-ok {X} {R} Read (Ok y) Kept item x e = let same : y ≡ x = ok_same {E = Cause R} y x e in (ap (λ z. Ok z) same, ap (λ z. Some (item z)) same)
 puts-ok Read (Ok y) Lost item x e = cc
 puts-ok Read (Ok y) KeptUntold item x e = cc
 puts-ok Read (Err d) p item x e = cc
@@ -101,12 +125,12 @@ puts-ok ReadFails r p item x e = cc
 puts-ok (BadRecord k) r p item x e = cc
 
 -- what a call puts is the record of what it would answer
-pub record IsPut {X : Type 0} (r : Result X Refusal) (item : X → Record) (put : Record) : Type 0 where
+pub record IsPut {X R : Type 0} (r : Result X R) (item : X → Record) (put : Record) : Type 0 where
   pub value : X
   pub is : r ≡ Ok value
   pub item_is : item value ≡ put
 
-pub puts-some : {X : Type 0} (reading : Reading) (r : Result X Refusal) (p : Putting) (item : X → Record) (z : Record)
+pub puts-some : {X R : Type 0} (reading : Reading) (r : Result X R) (p : Putting) (item : X → Record) (z : Record)
     → (behind_reading reading (or_refusal r (λ y. puts p (item y) y))).put ≡ Some z → IsPut r item z
 puts-some Read (Ok y) Kept item z e = record { value = y; is = refl; item_is = cc }
 puts-some Read (Ok y) Lost item z e = cc

@@ -11,13 +11,16 @@ use Rattle.spec_records.specs.Records.{Record, Context, is_of, own, is_closed, o
 use Rattle.spec_records.proofs.RecordLemmas.{own-append, own-append_other, delivered_at-is_some}
 use Rattle.spec_exchange.specs.Chain.{◌>>=◌, unless, none_of, or_refused}
 use Rattle.spec_exchange.specs.Received.{Received, received}
-use Rattle.spec_exchange.specs.Refusals.{Refusal, many_records, NoContext, NoReceiveKeys, Replay, Form, ContextNotFound, NoKeys, NoRequest, Answered, SeqSpent, Beyond}
-use Rattle.spec_exchange.specs.FirstFailed.{Delivery, first_failed, first_failed_of}
-use Rattle.spec_exchange.specs.Outside.{Choice, Reading, Read, ReadFails, BadRecord, Putting, Kept, Lost, KeptUntold, Outcome, puts, behind_reading, or_refusal, with_put}
+use Rattle.spec_exchange.specs.Limits.{many_records}
+use Rattle.spec_exchange.specs.ReceivingRefusals.{Refusal, Form, NotBuilt, NoContext, NoReceiveKeys, Replay, NoRoom}
+use Rattle.spec_exchange.specs.SendingRefusals.{ContextNotFound, NoKeys, NoRequest, Answered, SeqSpent, Beyond}
+use Rattle.spec_exchange.specs.SendingRefusals as sending
+use Rattle.spec_exchange.specs.FirstFailed.{Delivery, is_later, keyed_context, first_failed, first_failed_of}
+use Rattle.spec_exchange.specs.Outside.{Choice, Cause, Reading, Read, ReadFails, BadRecord, Putting, Kept, Lost, KeptUntold, Outcome, puts, behind_reading, or_refusal, with_put}
 use Rattle.spec_exchange.specs.Calls.{Sealed, Outgoing, Asks, Replies, kind_of_outgoing, delivered_record, sent_record, mapping_to_send, protected}
 use Rattle.spec_exchange.specs.Runs.{Call, Deliver, Send, Puts, Reply, told, made, reply_of, put_of, after, replies}
-use Rattle.spec_exchange.specs.Isolation.{unnumbered_reply, unnumbered_result, received_id, is_id, concerns, own_events, own_replies}
-use Rattle.spec_exchange.proofs.ChainLemmas.{bind_then, ok_same, first_failed-ok, protected-ok, puts-some}
+use Rattle.spec_exchange.specs.Isolation.{unnumbered_cause, unnumbered_reply, unnumbered_result, received_id, is_id, concerns, own_events, own_replies}
+use Rattle.spec_exchange.proofs.ChainLemmas.{passes, formed-is, first_failed-ok, protected-ok, puts-some}
 
 -- ---- the records of one context
 
@@ -82,31 +85,36 @@ replay_alike (Some a) (Some b) e f g h = refl
 replay_alike None (Some b) e f g h = cc
 replay_alike (Some a) None e f g h = cc
 
-bind_same : {A B : Type 0} (r s : Result A Refusal) → r ≡ s → (f g : A → Result B Refusal) → ((x : A) → f x ≡ g x) → (r >>= f) ≡ (s >>= g)
+bind_same : {A B E : Type 0} (r s : Result A E) → r ≡ s → (f g : A → Result B E) → ((x : A) → f x ≡ g x) → (r >>= f) ≡ (s >>= g)
 unfolding ◌>>=◌
 bind_same (Ok x) s e f g h = rw (← e) (h x)
 bind_same (Err d) s e f g h = rw (← e)
 
+keyed_context-own : (records : List Record) (node : List ℕ) (id : ℕ) → keyed_context records node id ≡ keyed_context (own node id records) node id
+keyed_context-own records node id =
+    bind_same _ _ (ap (λ o. wanted o NoContext) (sym (open_context-own node id records))) _ _ λ x.
+    bind_same _ _ (ap (λ o. wanted o NoReceiveKeys) (sym (keys-own node id records))) _ _ λ k.
+    refl
+
 isolated_of : (records : List Record) (node : List ℕ) (d : Received) → length records < record_limit
     → unnumbered_result (first_failed_of records node d) ≡ unnumbered_result (first_failed_of (own node d.context records) node d)
 isolated_of records node d short =
-    bind_alike _ _ refl _ _ λ u1.
-    bind_alike _ _ (ap (λ o. wanted o NoContext) (sym (open_context-own node d.context records))) _ _ λ x.
-    bind_alike _ _ (ap (λ o. wanted o NoReceiveKeys) (sym (keys-own node d.context records))) _ _ λ k.
-    bind_alike _ _ refl _ _ λ u4.
+    bind_alike _ _ (keyed_context-own records node d.context) _ _ λ c.
     bind_alike _ _ refl _ _ λ plain.
-    replay_alike _ _ (delivered_at-own node d.context d.kind d.message records) _ _ λ u6.
-    bind_alike _ _ refl _ _ λ values.
-    bind_alike _ _ refl _ _ λ holed.
-    bind_alike _ _ refl _ _ λ content.
-    bind_alike _ _ refl _ _ λ u10.
-    bind_alike _ _ (ap (λ b. unless b (Beyond many_records)) (room-own node d.context records short)) _ _ λ u11.
+    replay_alike _ _ (delivered_at-own node d.context d.kind d.message records) _ _ λ u3.
+    bind_alike _ _ refl _ _ λ m.
+    bind_alike _ _ refl _ _ λ u5.
+    bind_alike _ _ (ap (λ b. unless b NoRoom) (room-own node d.context records short)) _ _ λ u6.
     refl
 
-received_alike : (formed : Result Received (List ℕ)) (id : ℕ) → is_id (received_id formed) id ≡ true → (f g : Received → Result Delivery Refusal) → ((d : Received) → d.context ≡ id → unnumbered_result (f d) ≡ unnumbered_result (g d))
-    → unnumbered_result (or_refused (λ m. Form m) formed >>= f) ≡ unnumbered_result (or_refused (λ m. Form m) formed >>= g)
+received_alike : (r : Result Received (List ℕ)) (id : ℕ) → is_id (received_id r) id ≡ true → (f g : Received → Result Delivery Refusal) → ((d : Received) → d.context ≡ id → unnumbered_result (f d) ≡ unnumbered_result (g d))
+    → unnumbered_result ((or_refused (λ m. Form m) r >>= λ d. unless (is_later d) NotBuilt >>= λ u. Ok d) >>= f) ≡ unnumbered_result ((or_refused (λ m. Form m) r >>= λ d. unless (is_later d) NotBuilt >>= λ u. Ok d) >>= g)
 unfolding ◌>>=◌
-received_alike (Ok d) id e f g h = h d (eqb-true d.context id e)
+received_alike (Ok d) id e f g h = by (is_later d)
+  where
+    by : (b : Bool) → unnumbered_result ((unless b NotBuilt >>= λ u. Ok d) >>= f) ≡ unnumbered_result ((unless b NotBuilt >>= λ u. Ok d) >>= g)
+    by true = refl
+    by false = h d (eqb-true d.context id e)
 received_alike (Err m) id e f g h = refl
 
 isolated_document : (records : List Record) (node : List ℕ) (id : ℕ) (t : Tree) → is_id (received_id (received t)) id ≡ true → length records < record_limit
@@ -137,22 +145,26 @@ isolated_message records node id o m short =
 -- ---- calls
 
 -- what is delivered is the same, and what is put
-record Alike {X : Type 0} (f g : Outcome X) : Type 0 where
-  result_is : unnumbered_result f.result ≡ unnumbered_result g.result
+abbrev unnumbered_answer : {T : Type 0} → Result T (Cause Refusal) → Result T (Cause Refusal)
+unnumbered_answer (Ok x) = Ok x
+unnumbered_answer (Err e) = Err (unnumbered_cause e)
+
+record Alike {X : Type 0} (f g : Outcome Refusal X) : Type 0 where
+  result_is : unnumbered_answer f.result ≡ unnumbered_answer g.result
   put_is : f.put ≡ g.put
 
 alike-calls : {X : Type 0} (reading : Reading) (r s : Result X Refusal) (p : Putting) (item : X → Record) → unnumbered_result r ≡ unnumbered_result s
     → Alike (behind_reading reading (or_refusal r (λ y. puts p (item y) y))) (behind_reading reading (or_refusal s (λ y. puts p (item y) y)))
 alike-calls ReadFails r s p item e = record { result_is = refl; put_is = refl }
 alike-calls (BadRecord k) r s p item e = record { result_is = refl; put_is = refl }
-alike-calls Read (Ok x) (Ok y) Kept item e = record { result_is = e; put_is = cc }
+alike-calls Read (Ok x) (Ok y) Kept item e = record { result_is = cc; put_is = cc }
 alike-calls Read (Ok x) (Ok y) Lost item e = record { result_is = refl; put_is = refl }
 alike-calls Read (Ok x) (Ok y) KeptUntold item e = record { result_is = refl; put_is = cc }
-alike-calls Read (Err d) (Err f) p item e = record { result_is = e; put_is = refl }
+alike-calls Read (Err d) (Err f) p item e = record { result_is = cc; put_is = refl }
 alike-calls Read (Ok x) (Err f) p item e = cc
 alike-calls Read (Err d) (Ok y) p item e = cc
 
-told-alike : (r s : Result Delivery Refusal) → unnumbered_result r ≡ unnumbered_result s → unnumbered_reply (told r) ≡ unnumbered_reply (told s)
+told-alike : (r s : Result Delivery (Cause Refusal)) → unnumbered_answer r ≡ unnumbered_answer s → unnumbered_reply (told r) ≡ unnumbered_reply (told s)
 told-alike (Ok x) (Ok y) e = ap (λ z. told z) e
 told-alike (Err d) (Err f) e = ap (λ z. told z) e
 told-alike (Ok x) (Err f) e = cc
@@ -178,31 +190,15 @@ own_call node id records f (Send n i o content) e short =
     let P : List ℕ → Type 0 = λ z. protected records n i o content ≡ protected (own z i records) n i o content in
     let Q : ℕ → Type 0 = λ z. protected records n i o content ≡ protected (own node z records) n i o content in
     let same = subst Q same_id (subst P at (isolated_message records n i o content short)) in
-    let F : Result Sealed Refusal → Outcome Sealed = λ r. behind_reading f.reading (or_refusal r (λ s. puts f.putting (sent_record s) s)) in
+    let F : Result Sealed sending.Refusal → Outcome sending.Refusal Sealed = λ r. behind_reading f.reading (or_refusal r (λ s. puts f.putting (sent_record s) s)) in
     record { reply_is = ap (λ r. unnumbered_reply (made (F r).result)) same; put_is = ap (λ r. (F r).put) same }
 own_call node id records f (Puts o) e short = record { reply_is = refl; put_is = refl }
-
-received-id : (r : Result Received (List ℕ)) (d : Received) → or_refused Form r ≡ Ok d → received_id r ≡ Some d.context
-received-id (Ok x) d e = cc
-received-id (Err m) d e = cc
 
 -- what is delivered is of the context that its document names
 delivered-id : (records : List Record) (node : List ℕ) (t : Tree) (y : Delivery) → first_failed records node t ≡ Ok y → received_id (received t) ≡ Some y.id
 delivered-id records node t y e =
-    bind_then _ _ y e λ d e_form e1.
-    bind_then _ _ y e1 λ u1 e_later e2.
-    bind_then _ _ y e2 λ x e_open e3.
-    bind_then _ _ y e3 λ k e_keys e4.
-    bind_then _ _ y e4 λ u4 e_cipher e5.
-    bind_then _ _ y e5 λ plain e_plain e6.
-    bind_then _ _ y e6 λ u6 e_replay e7.
-    bind_then _ _ y e7 λ values e_values e8.
-    bind_then _ _ y e8 λ holed e_holed e9.
-    bind_then _ _ y e9 λ content e_content e10.
-    bind_then _ _ y e10 λ u10 e_clear e11.
-    bind_then _ _ y e11 λ u11 e_limit e12.
-    let P : Delivery → Type 0 = λ y. received_id (received t) ≡ Some y.id in
-    subst P (ok_same {E = Refusal} _ y e12) (received-id (received t) d e_form)
+    let p = passes records node t y e in
+    ap received_id (formed-is t p.parts p.form) ∙ ap (λ i. Some i) (sym p.id_is)
 
 -- what a call puts is of the context that the call is of
 is_id-at : (o : Option ℕ) (i j : ℕ) → o ≡ Some i → is_id o j ≡ (i == j)

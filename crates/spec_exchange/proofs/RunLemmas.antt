@@ -9,9 +9,10 @@ use Rattle.std.proofs.lemmas.Slice.Eq.{bytes_eq-Decides}
 use Rattle.spec_messages.specs.Message.{Kind, of_request, of_response}
 use Rattle.spec_records.specs.Records.{same_kind, Record, is_of, own, is_delivery, is_numbered, was_delivered, was_sent, delivered_at}
 use Rattle.spec_records.proofs.RecordLemmas.{own-append, delivered_at-is_some, next_seq-new}
-use Rattle.spec_exchange.specs.Refusals.{Refusal}
+use Rattle.spec_exchange.specs.ReceivingRefusals as receiving
+use Rattle.spec_exchange.specs.SendingRefusals as sending
 use Rattle.spec_exchange.specs.FirstFailed.{Delivery, first_failed}
-use Rattle.spec_exchange.specs.Outside.{Choice, with_put}
+use Rattle.spec_exchange.specs.Outside.{Choice, Cause, with_put}
 use Rattle.spec_exchange.specs.Calls.{Sealed, Outgoing, delivered_record, sent_record, accepted, sends, protected}
 use Rattle.spec_exchange.specs.Runs.{Call, Deliver, Send, Puts, Reply, Told, Made, told, made, reply_of, after, replies, delivers, numbers}
 use Rattle.spec_exchange.proofs.ChainLemmas.{IsNew, IsNext, first_failed-ok, protected-ok, puts-ok}
@@ -86,7 +87,7 @@ pub delivered-step : (node : List ℕ) (id : ℕ) (kind : Kind) (message : ℕ) 
 delivered-step node id kind message records f (Puts o) = omega (arith, held-more (is_delivery kind message) node id records o)
 delivered-step node id kind message records f (Send at i o content) = sent (sends f records at i o content).result
   where
-    sent : (r : Result Sealed Refusal) → bit (delivers node id kind message (made r)) + bit (was_delivered node id kind message records) ≤ bit (was_delivered node id kind message (after records f (Send at i o content)))
+    sent : (r : Result Sealed (Cause sending.Refusal)) → bit (delivers node id kind message (made r)) + bit (was_delivered node id kind message records) ≤ bit (was_delivered node id kind message (after records f (Send at i o content)))
     sent (Ok s) = omega (arith, held-more (is_delivery kind message) node id records (sends f records at i o content).put)
     sent (Err d) = omega (arith, held-more (is_delivery kind message) node id records (sends f records at i o content).put)
 delivered-step node id kind message records f (Deliver at t) = came (accepted f records at t).result refl
@@ -102,7 +103,7 @@ delivered-step node id kind message records f (Deliver at t) = came (accepted f 
         (delivered-new node id kind message records at d (first_failed-ok records at t d p.0) h)
         p.1 (and_from _ _ a.0 b.0) b.1
 
-    came : (r : Result Delivery Refusal) → (accepted f records at t).result ≡ r
+    came : (r : Result Delivery (Cause receiving.Refusal)) → (accepted f records at t).result ≡ r
         → bit (delivers node id kind message (told r)) + bit (was_delivered node id kind message records) ≤ bit (was_delivered node id kind message (after records f (Deliver at t)))
     came (Err d) e = omega (arith, held-more (is_delivery kind message) node id records (accepted f records at t).put)
     came (Ok d) e = one d (delivers node id kind message (Told d)) e refl
@@ -131,7 +132,7 @@ pub numbered-step : (node : List ℕ) (id : ℕ) (kind : Kind) (seq : ℕ) (reco
 numbered-step node id kind seq records f (Puts o) = omega (arith, held-more (is_numbered kind seq) node id records o)
 numbered-step node id kind seq records f (Deliver at t) = came (accepted f records at t).result
   where
-    came : (r : Result Delivery Refusal) → bit (numbers node id kind seq (told r)) + bit (was_sent node id kind seq records) ≤ bit (was_sent node id kind seq (after records f (Deliver at t)))
+    came : (r : Result Delivery (Cause receiving.Refusal)) → bit (numbers node id kind seq (told r)) + bit (was_sent node id kind seq records) ≤ bit (was_sent node id kind seq (after records f (Deliver at t)))
     came (Ok d) = omega (arith, held-more (is_numbered kind seq) node id records (accepted f records at t).put)
     came (Err d) = omega (arith, held-more (is_numbered kind seq) node id records (accepted f records at t).put)
 numbered-step node id kind seq records f (Send at i o content) = sent (sends f records at i o content).result refl
@@ -147,7 +148,7 @@ numbered-step node id kind seq records f (Send at i o content) = sent (sends f r
         (numbered-new node id kind seq records at i o s (protected-ok records at i o content s p.0) h)
         p.1 (and_from _ _ a.0 b.0) b.1
 
-    sent : (r : Result Sealed Refusal) → (sends f records at i o content).result ≡ r
+    sent : (r : Result Sealed (Cause sending.Refusal)) → (sends f records at i o content).result ≡ r
         → bit (numbers node id kind seq (made r)) + bit (was_sent node id kind seq records) ≤ bit (was_sent node id kind seq (after records f (Send at i o content)))
     sent (Err d) e = omega (arith, held-more (is_numbered kind seq) node id records (sends f records at i o content).put)
     sent (Ok s) e = one s (numbers node id kind seq (Made s)) e refl

@@ -26,8 +26,10 @@ use Rattle.spec_exchange.specs.Decoding.{document_of}
 use Rattle.spec_exchange.specs.Received.{block_in, if_has_meta, metadata_of, kind_in, received}
 use Rattle.spec_exchange.specs.Rebuilding.{no_values, no_block, no_fill, values_in, values_of, plaintext, of_block, read_block, unless_fault, filled_with, mapping_of_head, in_clear}
 use Rattle.spec_exchange.specs.Calls.{metadata_for, sent_block_of, split_limit, sealed_document, Sealed, Asks, protected}
-use Rattle.spec_exchange.specs.Refusals.{Limit, many_headers, many_items, many_values, long_block, many_records, Refusal, ContextNotFound, NoKeys, Form, NoContext, NoReceiveKeys, Cipher, Integrity, Replay, Reconstruction, InClear, Beyond}
-use Rattle.spec_exchange.specs.FirstFailed.{receive_key, first_failed_of, first_failed}
+use Rattle.spec_exchange.specs.Limits.{Limit, many_headers, many_items, many_values, long_block}
+use Rattle.spec_exchange.specs.ReceivingRefusals.{Form, NoContext, NoReceiveKeys, Cipher, Integrity, Replay, Reconstruction, InClear, NoRoom}
+use Rattle.spec_exchange.specs.SendingRefusals.{Refusal, ContextNotFound, NoKeys}
+use Rattle.spec_exchange.specs.FirstFailed.{receive_key, KeyedContext, Rebuilt, rebuilt, first_failed_of, first_failed}
 use Rattle.spec_exchange.specs.Jwe.{content_key, misfit, opened, nonce, sealed, carrier}
 use Rattle.spec_exchange.specs.Untouched.{mapping_under, block_under, values_under, IsSendable, HasNames, AreValues, IsReady, delivery_of}
 use Rattle.aes_block.proofs.Below as below
@@ -147,6 +149,13 @@ pub record Stands (pol : Policy) (k : Option ℕ) (m : Message) (meta : Meta) : 
 block-back : (pol : Policy) (k : Option ℕ) (m : Message) (meta : Meta) → Stands pol k m meta → read_block (sent_block pol k m meta) (length (values pol k m)) ≡ Ok (cleared pol k m)
 block-back pol k m meta h = ap₂ of_block h.fault h.clear
 
+rebuilt-back : (pol : Policy) (k : Option ℕ) (m : Message) (meta : Meta) → values_of (plaintext (values pol k m)) ≡ Some (values pol k m) → Stands pol k m meta
+    → rebuilt (sent_block pol k m meta) (plaintext (values pol k m)) ≡ Ok (record { holed = cleared pol k m; content = m })
+rebuilt-back pol k m meta listed h =
+    bind_at _ _ (values pol k m) (ap (λ o. wanted o (Reconstruction no_values)) listed)
+    ∙ (bind_at _ _ (cleared pol k m) (ap (or_refused (λ why. Reconstruction (no_block why))) (block-back pol k m meta h))
+    ∙ bind_at _ _ m (ap (or_refused (λ why. Reconstruction (no_fill why))) h.fill))
+
 -- a tree without a fault has its metadata
 fault-meta : (j : Tree) (n : ℕ) → block_fault j n ≡ None → if_has_meta j ≡ Some j
 fault-meta j n e = tested (is_object j && is_meta_node (get_member (codes "metaData") (members_of j))) (not-false _ (when_none _ _ (first_none _ _ (member-none (member_fault j) (first_none _ _ e).0)).0))
@@ -191,18 +200,15 @@ checked-back : (x : Context) (key : OneKey) (seq : ℕ) (m : Message) (node : Li
     → first_failed_of records node (record { jwe = w; block = block_under x seq m; context = x.peer; message = seq; authorized = ipx; kind = of_request; entries = [] }) ≡ Ok (delivery_of x seq m node)
 checked-back x key seq m node records w ipx fits opens values stands ordered r =
     let same : content_key r.context.suite (receive_key of_request r.keys).key ≡ content_key x.suite key.key = ap₂ content_key r.suite_is r.key_is in
-    bind_at _ _ tt refl
-    ∙ (bind_at _ _ r.context (ap (λ o. wanted o NoContext) r.is_open)
-    ∙ (bind_at _ _ r.keys (ap (λ o. wanted o NoReceiveKeys) r.has_keys)
-    ∙ (bind_at _ _ tt (ap (none_of (λ z. Cipher z)) (ap (λ k. misfit k w) same ∙ fits))
-    ∙ (bind_at _ _ (plaintext (values_under x m)) (ap (λ o. wanted o Integrity) (ap (λ k. opened k w) same ∙ opens))
+    let c : KeyedContext = record { context = r.context; key_set = r.keys } in
+    let m2 : Rebuilt = record { holed = cleared x.policy (mapping_under x m) m; content = m } in
+    bind_at _ _ c (bind_at _ _ r.context (ap (λ o. wanted o NoContext) r.is_open) ∙ bind_at _ _ r.keys (ap (λ o. wanted o NoReceiveKeys) r.has_keys))
+    ∙ (bind_at _ _ (plaintext (values_under x m)) (bind_at _ _ tt (ap (none_of (λ z. Cipher z)) (ap (λ k. misfit k w) same ∙ fits)) ∙ ap (λ o. wanted o Integrity) (ap (λ k. opened k w) same ∙ opens))
     ∙ (bind_at _ _ tt (ap (none_of (λ z. Replay z)) r.first)
-    ∙ (bind_at _ _ (values_under x m) (ap (λ o. wanted o (Reconstruction no_values)) values)
-    ∙ (bind_at _ _ (cleared x.policy (mapping_under x m) m) (ap (or_refused (λ why. Reconstruction (no_block why))) (block-back x.policy (mapping_under x m) m (metadata_for x seq) stands))
-    ∙ (bind_at _ _ m (ap (or_refused (λ why. Reconstruction (no_fill why))) stands.fill)
+    ∙ (bind_at _ _ m2 (rebuilt-back x.policy (mapping_under x m) m (metadata_for x seq) values stands)
     ∙ (bind_at _ _ tt (ap (none_of (λ z. InClear z)) (ap (λ p. in_clear p (mapping_of_head p m.head) (cleared x.policy (mapping_under x m) m) m) r.policy_is ∙ all-hidden x.policy (mapping_under x m) m ordered))
-    ∙ (bind_at _ _ tt (ap (λ b. unless b (Beyond many_records)) (lt-leb record_limit (length records) r.room))
-    ∙ ap (λ p. Ok (record { content = m; node = node; id = x.peer; kind = of_request; message = seq; mapping = mapping_of_head p m.head })) r.policy_is))))))))))
+    ∙ (bind_at _ _ tt (ap (λ b. unless b NoRoom) (lt-leb record_limit (length records) r.room))
+    ∙ ap (λ p. Ok (record { content = m; node = node; id = x.peer; kind = of_request; message = seq; mapping = mapping_of_head p m.head })) r.policy_is)))))
 
 -- ---- all of it
 
@@ -218,12 +224,12 @@ untouched x key seq m node records laws stands shallow sendable names fits are r
     let made : JweOf ck (nonce key seq) (compact_text j) plain w = record { protected = refl; aad = refl; iv = refl; sealed = record { text = refl; tag = refl } } in
     let opening = laws ck (nonce key seq) (compact_text j) plain w made in
     let meta : metadata_of j ≡ (sent_block_of x (mapping_under x m) seq m).metadata = meta-is (sent_block_of x (mapping_under x m) seq m) in
-    bind_at _ _ _ (ap (or_refused (λ z. Form z)) (form-back w j x.peer seq are.parts
+    bind_at _ _ _ (bind_at _ _ _ (ap (or_refused (λ z. Form z)) (form-back w j x.peer seq are.parts
     (sealed_has_texts ck (nonce key seq) (compact_text j) plain w are.block_bytes made)
     (aad-back j (length (values_under x m)) stands.fault are.block shallow are.block_bytes)
     (ap (λ (z : Meta). hex_after 0 z.context) meta ∙ id_back x.peer names.peer)
     (ap (λ (z : Meta). hex_after 0 z.message) meta ∙ id_back seq fits)
-    (request-kind x.policy (mapping_under x m) m (metadata_for x seq) sendable.request)))
+    (request-kind x.policy (mapping_under x m) m (metadata_for x seq) sendable.request))) ∙ bind_at _ _ tt refl)
     ∙ checked-back x key seq m node records w (metadata_of j).ipx (misfit-is ck w None opening.0) (opened-opens ck w plain opening.1) (values-back (values_under x m) are.plain are.plain_depth) stands sendable.ordered ready
 
 -- ---- what was sent

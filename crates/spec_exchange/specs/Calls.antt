@@ -12,7 +12,9 @@ use Rattle.spec_records.specs.Records.{OneKey, KeySet, Context, Record, Sent, De
 use Rattle.spec_exchange.specs.Chain.{◌>>=◌, unless, none_of}
 use Rattle.spec_exchange.specs.Jwe.{content_key, nonce, sealed, carrier}
 use Rattle.spec_exchange.specs.Rebuilding.{plaintext, mapping_of_head}
-use Rattle.spec_exchange.specs.Refusals.{Limit, many_headers, many_items, many_values, long_block, many_records, Refusal, Beyond, ContextNotFound, NoKeys, NoRequest, Answered, SeqSpent}
+use Rattle.spec_exchange.specs.Limits.{Limit, many_headers, many_items, many_values, long_block, many_records}
+use Rattle.spec_exchange.specs.SendingRefusals.{Refusal, Beyond, ContextNotFound, NoKeys, NoRequest, Answered, SeqSpent}
+use Rattle.spec_exchange.specs.ReceivingRefusals as receiving
 use Rattle.spec_exchange.specs.FirstFailed.{Delivery, first_failed}
 use Rattle.spec_exchange.specs.Outside.{Choice, Outcome, puts, behind_reading, or_refusal}
 
@@ -22,7 +24,7 @@ abbrev pub delivered_record : Delivery → Record
 delivered_record d = Delivered d.node d.id d.kind d.message d.mapping
 
 -- the document is accepted at the node
-abbrev pub accepted : Choice → List Record → (node : List ℕ) → Tree → Outcome Delivery
+abbrev pub accepted : Choice → List Record → (node : List ℕ) → Tree → Outcome receiving.Refusal Delivery
 accepted f records node t = behind_reading f.reading (or_refusal (first_failed records node t) (λ d. puts f.putting (delivered_record d) d))
 
 -- ---- sending
@@ -111,5 +113,5 @@ protected records node id o m = do
   })
 
 -- the message is sent at the node
-abbrev pub sends : Choice → List Record → (node : List ℕ) → (id : ℕ) → Outgoing → Message → Outcome Sealed
+abbrev pub sends : Choice → List Record → (node : List ℕ) → (id : ℕ) → Outgoing → Message → Outcome Refusal Sealed
 sends f records node id o m = behind_reading f.reading (or_refusal (protected records node id o m) (λ s. puts f.putting (sent_record s) s))

@@ -1,13 +1,16 @@
--- What a receiving SEPP answers to a document: the first check that fails, or the message to deliver (after TS 33.501 clause 13.2.4.6; the order is this project's own).
+-- What a receiving SEPP answers to a document: the first check that fails, or the message to deliver (after TS 33.501 clause 13.2.4.6; the order is this project's own). The checks stand in stages, one after the other.
 use Rattle.std.specs.Prelude.{ℕ, List, length, Bool, false, true, ◌||◌, nat_le, nat_lt, Option, Result, Ok}
 use Rattle.spec_documents.specs.Tree.{Tree}
 use Rattle.spec_messages.specs.Message.{Message, Kind, of_request, of_response, wanted}
-use Rattle.spec_records.specs.Records.{OneKey, KeySet, Record, record_limit, open_context, keys, delivered_at}
+use Rattle.spec_messages.specs.Policy.{Policy}
+use Rattle.jwe_flat.specs.declared.jwe.FlatJwe.{FlatJwe}
+use Rattle.jwe_flat.specs.declared.key.ContentKey.{ContentKey}
+use Rattle.spec_records.specs.Records.{OneKey, KeySet, Context, Record, record_limit, open_context, keys, delivered_at}
 use Rattle.spec_exchange.specs.Chain.{◌>>=◌, unless, none_of, or_refused}
 use Rattle.spec_exchange.specs.Jwe.{content_key, misfit, opened}
 use Rattle.spec_exchange.specs.Received.{Received, received}
 use Rattle.spec_exchange.specs.Rebuilding.{no_values, no_block, no_fill, values_of, read_block, filled_with, mapping_of_head, in_clear}
-use Rattle.spec_exchange.specs.Refusals.{Refusal, many_records, Form, NotBuilt, NoContext, NoReceiveKeys, Cipher, Integrity, Replay, Reconstruction, InClear, Beyond}
+use Rattle.spec_exchange.specs.ReceivingRefusals.{Refusal, Form, NotBuilt, NoContext, NoReceiveKeys, Cipher, Integrity, Replay, Reconstruction, InClear, NoRoom}
 
 -- what is delivered, with what its record needs
 pub record Delivery : Type 0 where
@@ -27,26 +30,87 @@ abbrev pub is_response : Kind → Bool
 is_response of_request = false
 is_response of_response = true
 
+-- ---- the form
+
 -- entries and responses are not read yet
 abbrev pub is_later : Received → Bool
 is_later d = nat_lt 0 (length d.entries) || is_response d.kind
 
+abbrev pub formed : Tree → Result Received Refusal
+formed t = do
+  d ← or_refused Form (received t)
+  _ ← unless (is_later d) NotBuilt
+  Ok d
+
+-- ---- the context and its keys
+
+pub record KeyedContext : Type 0 where
+  pub context : Context
+  pub key_set : KeySet
+
+-- the key under which the peer seals messages of the kind
+abbrev pub key_for : Kind → KeyedContext → ContentKey
+key_for kind c = content_key c.context.suite (receive_key kind c.key_set).key
+
+abbrev pub keyed_context : List Record → (node : List ℕ) → (id : ℕ) → Result KeyedContext Refusal
+keyed_context records node id = do
+  x ← wanted (open_context node id records) NoContext
+  k ← wanted (keys node id records) NoReceiveKeys
+  Ok (record { context = x; key_set = k })
+
+-- ---- the header and the tag
+
+-- the plaintext of a JWE whose header is of the suite and whose tag recomputes
+abbrev pub opens : ContentKey → FlatJwe → Result (List ℕ) Refusal
+opens key w = do
+  _ ← none_of Cipher (misfit key w)
+  wanted (opened key w) Integrity
+
+-- ---- the first of its id
+
+abbrev pub is_first : List Record → (node : List ℕ) → (id : ℕ) → Kind → (message : ℕ) → Result (Unit {0}) Refusal
+is_first records node id kind message = none_of Replay (delivered_at node id kind message records)
+
+-- ---- rebuilt
+
+-- the message with its holes, and with its values
+pub record Rebuilt : Type 0 where
+  pub holed : Message
+  pub content : Message
+
+abbrev pub rebuilt : (block : Tree) → (plain : List ℕ) → Result Rebuilt Refusal
+rebuilt block plain = do
+  values ← wanted (values_of plain) (Reconstruction no_values)
+  holed ← or_refused (λ why. Reconstruction (no_block why)) (read_block block (length values))
+  content ← or_refused (λ why. Reconstruction (no_fill why)) (filled_with values holed)
+  Ok (record { holed = holed; content = content })
+
+-- ---- nothing secret in clear
+
+abbrev pub is_sealed : Policy → (mapping : Option ℕ) → Rebuilt → Result (Unit {0}) Refusal
+is_sealed policy mapping m = none_of InClear (in_clear policy mapping m.holed m.content)
+
+-- ---- room for the record
+
+abbrev pub has_room : List Record → Result (Unit {0}) Refusal
+has_room records = unless (nat_le record_limit (length records)) NoRoom
+
+-- ---- the stages in their order
+
+abbrev pub delivery_at : (node : List ℕ) → Received → (mapping : Option ℕ) → Message → Delivery
+delivery_at node d mapping m = record { content = m; node = node; id = d.context; kind = d.kind; message = d.message; mapping = mapping }
+
 -- the checks of a document of the form
 abbrev pub first_failed_of : List Record → (node : List ℕ) → Received → Result Delivery Refusal
 first_failed_of records node d = do
-  _ ← unless (is_later d) NotBuilt
-  x ← wanted (open_context node d.context records) NoContext
-  k ← wanted (keys node d.context records) NoReceiveKeys
-  _ ← none_of Cipher (misfit (content_key x.suite (receive_key d.kind k).key) d.jwe)
-  plain ← wanted (opened (content_key x.suite (receive_key d.kind k).key) d.jwe) Integrity
-  _ ← none_of Replay (delivered_at node d.context d.kind d.message records)
-  values ← wanted (values_of plain) (Reconstruction no_values)
-  holed ← or_refused (λ why. Reconstruction (no_block why)) (read_block d.block (length values))
-  content ← or_refused (λ why. Reconstruction (no_fill why)) (filled_with values holed)
-  let mapping : Option ℕ = mapping_of_head x.policy content.head
-  _ ← none_of InClear (in_clear x.policy mapping holed content)
-  _ ← unless (nat_le record_limit (length records)) (Beyond many_records)
-  Ok (record { content = content; node = node; id = d.context; kind = d.kind; message = d.message; mapping = mapping })
+  c ← keyed_context records node d.context
+  plain ← opens (key_for d.kind c) d.jwe
+  _ ← is_first records node d.context d.kind d.message
+  m ← rebuilt d.block plain
+  let mapping : Option ℕ = mapping_of_head c.context.policy m.content.head
+  _ ← is_sealed c.context.policy mapping m
+  _ ← has_room records
+  Ok (delivery_at node d mapping m.content)
 
 abbrev pub first_failed : List Record → (node : List ℕ) → Tree → Result Delivery Refusal
-first_failed records node t = or_refused Form (received t) >>= λ d. first_failed_of records node d
+first_failed records node t = formed t >>= λ d. first_failed_of records node d

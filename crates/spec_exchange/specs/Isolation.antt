@@ -2,17 +2,21 @@
 use Rattle.std.specs.Prelude.{ℕ, Bool, false, ◌&&◌, ◌==◌, List, [], ◌∷◌, Option, Some, None, Result, Ok, Err, if◌then◌else◌, bytes_eq, filter}
 use Rattle.spec_records.specs.Records.{Record, is_of}
 use Rattle.spec_exchange.specs.Received.{Received, received}
-use Rattle.spec_exchange.specs.Refusals.{Refusal, Replay}
-use Rattle.spec_exchange.specs.Outside.{Choice}
-use Rattle.spec_exchange.specs.Runs.{Call, Deliver, Send, Puts, Reply, Refused, reply_of, after}
+use Rattle.spec_exchange.specs.ReceivingRefusals.{Refusal, Replay}
+use Rattle.spec_exchange.specs.Outside.{Choice, Cause, Own, Outside}
+use Rattle.spec_exchange.specs.Runs.{Call, Deliver, Send, Puts, Reply, NotDelivered, reply_of, after}
 
 -- a refusal but for the number of a replayed message's record
 abbrev pub unnumbered : Refusal → Refusal
 unnumbered (Replay number) = Replay 0
 unnumbered e = e
 
+abbrev pub unnumbered_cause : Cause Refusal → Cause Refusal
+unnumbered_cause (Own e) = Own (unnumbered e)
+unnumbered_cause (Outside fault) = Outside fault
+
 abbrev pub unnumbered_reply : Reply → Reply
-unnumbered_reply (Refused e) = Refused (unnumbered e)
+unnumbered_reply (NotDelivered e) = NotDelivered (unnumbered_cause e)
 unnumbered_reply r = r
 
 abbrev pub unnumbered_result : {T : Type 0} → Result T Refusal → Result T Refusal

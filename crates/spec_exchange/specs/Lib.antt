@@ -3,7 +3,11 @@ pub mod Decoding
 pub mod Jwe
 pub mod Received
 pub mod Rebuilding
-pub mod Refusals
+pub mod Limits
+pub mod Telling
+pub mod RebuildTexts
+pub mod ReceivingRefusals
+pub mod SendingRefusals
 pub mod FirstFailed
 pub mod Outside
 pub mod Calls

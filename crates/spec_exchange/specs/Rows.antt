@@ -1,10 +1,21 @@
 -- The records and messages of worked examples.
-use Rattle.std.specs.Prelude.{ℕ, List, [], ◌∷◌, ◌++◌, Some, None, codes}
+use Rattle.std.specs.Prelude.{◌≡◌, ℕ, ◌≤◌, List, [], ◌∷◌, ◌++◌, length, Option, Some, None, Result, codes}
+use Rattle.spec_documents.specs.Tree.{Tree, null}
 use Rattle.spec_messages.specs.Message.{clear, request, Message, of_request, of_response}
 use Rattle.spec_messages.specs.Policy.{Policy, fixed, variable, uri_param, ueid}
+use Rattle.spec_messages.specs.Split.{cleared}
+use Rattle.spec_messages.specs.Block.{block_of, block_tree}
 use Rattle.spec_messages.specs.Rows.{element}
 use Rattle.spec_records.specs.Records.{A128Gcm, OneKey, KeySet, Context, Record, Opened, Keyed, Sent, Delivered}
+use Rattle.spec_records.specs.Records as records
 use Rattle.spec_records.specs.RecordRows.{sixteen_bytes}
+use Rattle.jwe_flat.specs.declared.jwe.FlatJwe.{FlatJwe}
+use Rattle.jwe_flat.specs.declared.key.ContentKey.{ContentKey}
+use Rattle.spec_exchange.specs.Jwe as jwe
+use Rattle.spec_exchange.specs.Received.{Received}
+use Rattle.spec_exchange.specs.ReceivingRefusals.{Refusal}
+use Rattle.spec_exchange.specs.FirstFailed.{Delivery, KeyedContext, key_for, first_failed_of}
+use Rattle.spec_exchange.specs.Calls.{metadata_for}
 
 -- GET of a subscriber's slices, the subscriber's id secret
 abbrev pub slices_policy : Policy
@@ -46,10 +57,11 @@ context_at node id peer_node peer plmn own peer_own =
 abbrev pub context_a : Context
 context_a = context_at (codes "A") 161 (codes "B") 177 (codes "00202") (codes "ipx-a") (codes "ipx-b")
 
+abbrev pub context_b : Context
+context_b = context_at (codes "B") 177 (codes "A") 161 (codes "00101") (codes "ipx-b") (codes "ipx-a")
+
 abbrev pub opened_both : List Record
-opened_both =
-    Opened context_a
-    ∷ Opened (context_at (codes "B") 177 (codes "A") 161 (codes "00101") (codes "ipx-b") (codes "ipx-a")) ∷ []
+opened_both = Opened context_a ∷ Opened context_b ∷ []
 
 abbrev pub keyed_both : ℕ → List Record
 keyed_both first = opened_both ++ Keyed (codes "A") 161 (keys_from first) ∷ Keyed (codes "B") 177 (keys_from first) ∷ []
@@ -59,3 +71,40 @@ after_request = keyed_both 4294967295 ++ Sent (codes "A") 161 of_request 4294967
 
 abbrev pub after_reply : List Record
 after_reply = keyed_both 0 ++ Delivered (codes "B") 177 of_request 3 (Some 0) ∷ Sent (codes "B") 177 of_response 0 3 (Some 0) ∷ Delivered (codes "B") 177 of_request 4 (Some 0) ∷ []
+
+abbrev pub after_delivery : List Record
+after_delivery = keyed_both 0 ++ Delivered (codes "B") 177 of_request 3 (Some 0) ∷ []
+
+-- ---- what B receives of A
+
+abbrev pub held_b : KeyedContext
+held_b = record { context = context_b; key_set = keys_from 0 }
+
+-- the key under which A seals requests
+abbrev pub key_b : ContentKey
+key_b = key_for of_request held_b
+
+-- request 3 of A
+abbrev pub received_with : FlatJwe → (block : Tree) → (entries : List Tree) → Received
+received_with w block entries = record { jwe = w; block = block; context = 177; message = 3; authorized = codes "ipx-a"; kind = of_request; entries = entries }
+
+abbrev pub told_at_b : List Record → FlatJwe → (block : Tree) → Result Delivery Refusal
+told_at_b rs w block = first_failed_of rs (codes "B") (received_with w block [])
+
+-- the block of the request with the subscriber hidden, and with all in clear
+abbrev pub hidden_block : Tree
+hidden_block = block_tree (block_of (cleared slices_policy (Some 0) slices_request) (metadata_for context_a 3))
+
+abbrev pub clear_block : Tree
+clear_block = block_tree (block_of slices_request (metadata_for context_a 3))
+
+-- the JWE opens to this plaintext
+pub record OpensTo (w : FlatJwe) (plain : List ℕ) : Type 0 where
+  pub fits : jwe.misfit key_b w ≡ None
+  pub opens_is : jwe.opened key_b w ≡ Some plain
+
+-- the records under which B receives request 3 for the first time
+pub record AwaitsThird (rs : List Record) : Type 0 where
+  pub context_is : records.open_context (codes "B") 177 rs ≡ Some context_b
+  pub keys_are : records.keys (codes "B") 177 rs ≡ Some (keys_from 0)
+  pub first : records.delivered_at (codes "B") 177 of_request 3 rs ≡ None

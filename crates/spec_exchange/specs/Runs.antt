@@ -3,9 +3,10 @@ use Rattle.std.specs.Prelude.{ℕ, Bool, false, ◌&&◌, ◌==◌, List, [], �
 use Rattle.spec_documents.specs.Tree.{Tree}
 use Rattle.spec_messages.specs.Message.{Message, Kind}
 use Rattle.spec_records.specs.Records.{same_kind, Record}
-use Rattle.spec_exchange.specs.Refusals.{Refusal}
+use Rattle.spec_exchange.specs.ReceivingRefusals as receiving
+use Rattle.spec_exchange.specs.SendingRefusals as sending
 use Rattle.spec_exchange.specs.FirstFailed.{Delivery}
-use Rattle.spec_exchange.specs.Outside.{Choice, with_put}
+use Rattle.spec_exchange.specs.Outside.{Choice, Cause, with_put}
 use Rattle.spec_exchange.specs.Calls.{Sealed, Outgoing, accepted, sends}
 
 -- a call of an event. Any other event that puts a record is Puts
@@ -17,16 +18,17 @@ pub data Call : Type 0 where
 pub data Reply : Type 0 where
   Told : (delivery : Delivery) → Reply
   Made : (sealed : Sealed) → Reply
-  Refused : (refusal : Refusal) → Reply
+  NotDelivered : (cause : Cause receiving.Refusal) → Reply
+  NotSent : (cause : Cause sending.Refusal) → Reply
   Other : Reply
 
-abbrev pub told : Result Delivery Refusal → Reply
+abbrev pub told : Result Delivery (Cause receiving.Refusal) → Reply
 told (Ok d) = Told d
-told (Err e) = Refused e
+told (Err e) = NotDelivered e
 
-abbrev pub made : Result Sealed Refusal → Reply
+abbrev pub made : Result Sealed (Cause sending.Refusal) → Reply
 made (Ok s) = Made s
-made (Err e) = Refused e
+made (Err e) = NotSent e
 
 -- what a call answers, and the record that is held more
 abbrev pub reply_of : List Record → Choice → Call → Reply

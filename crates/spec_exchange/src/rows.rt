@@ -1,23 +1,30 @@
 //! Worked examples, by computation.
 
-ghost use Rattle.std.specs.Prelude.{◌≡◌, [], ◌∷◌, Some, None, Err, codes};
-ghost use Rattle.spec_documents.specs.Tree.{null, words, items, members, trees, object};
+ghost use Rattle.std.specs.Prelude.{◌≡◌, ◌≤◌, ℕ, List, [], ◌∷◌, length, Some, None, Ok, Err, codes};
+ghost use Rattle.spec_documents.specs.Tree.{Tree, null, words, items, members, trees, object};
 ghost use Rattle.spec_documents.specs.Compact.{compact_text};
+ghost use Rattle.spec_messages.specs.Message.{of_request};
 ghost use Rattle.spec_messages.specs.Policy.{path_var, body_at};
 ghost use Rattle.spec_messages.specs.Split.{cleared};
+ghost use Rattle.spec_messages.specs.Fault.{bad_member};
+ghost use Rattle.spec_messages.specs.Rebuilt.{not_text};
 ghost use Rattle.spec_messages.specs.Rows.{block_three, message_three, policy_one};
+ghost use Rattle.spec_records.specs.Records.{Record, record_limit};
 ghost use Rattle.n32_values.specs.Base64url.{base64url};
 ghost use Rattle.jwe_flat.specs.Header.{header_text};
+ghost use Rattle.jwe_flat.specs.declared.jwe.FlatJwe.{FlatJwe};
 ghost use Rattle.jwe_flat.specs.declared.key.Suite.TheVariants.{A128Gcm};
+ghost use Rattle.jwe_flat.specs.declared.opening.CipherWhy.{CipherWhy};
 ghost use Rattle.spec_exchange.specs.Decoding.{bytes_of};
-ghost use Rattle.spec_exchange.specs.Rebuilding.{plaintext, in_clear};
-ghost use Rattle.spec_exchange.specs.Jwe.{nonce};
+ghost use Rattle.spec_exchange.specs.Rebuilding.{no_values, no_block, no_fill, plaintext, values_of, in_clear};
+ghost use Rattle.spec_exchange.specs.Jwe.{misfit, nonce, opened};
 ghost use Rattle.spec_exchange.specs.Untouched.{block_under, values_under};
 ghost use Rattle.spec_exchange.specs.Received.{entries_in, if_has_meta, received};
-ghost use Rattle.spec_exchange.specs.Refusals.{ContextNotFound, NoKeys, SeqSpent, NoRequest, Answered, Form};
+ghost use Rattle.spec_exchange.specs.ReceivingRefusals.{Form, NotBuilt, NoContext, NoReceiveKeys, Cipher, Integrity, Replay, Reconstruction, InClear, NoRoom};
+ghost use Rattle.spec_exchange.specs.SendingRefusals.{ContextNotFound, NoKeys, SeqSpent, NoRequest, Answered};
 ghost use Rattle.spec_exchange.specs.FirstFailed.{first_failed};
 ghost use Rattle.spec_exchange.specs.Calls.{Asks, Replies, protected};
-ghost use Rattle.spec_exchange.specs.Rows.{slices_policy, slices_request, one_key, context_a, opened_both, after_request, after_reply};
+ghost use Rattle.spec_exchange.specs.Rows.{slices_policy, slices_request, one_key, context_a, opened_both, keyed_both, after_request, after_reply, after_delivery, key_b, received_with, told_at_b, hidden_block, clear_block, OpensTo, AwaitsThird};
 
 /// A base64url text has no padding and no bits left over.
 pub fn text_rows()
@@ -73,4 +80,31 @@ pub fn sending_rows()
     ensures spent { protected after_request (codes "A") 161 Asks slices_request ≡ Err SeqSpent }
     ensures request { protected after_reply (codes "B") 177 (Replies 9) slices_request ≡ Err NoRequest }
     ensures answered { protected after_reply (codes "B") 177 (Replies 3) slices_request ≡ Err Answered }
+{}
+
+/// The first check that fails is told, also where the next one would fail.
+pub fn receiving_rows()
+    // the form, before what isn't read yet
+    ensures form { first_failed [] (codes "B") (members (object ((codes "modificationsBlock", items (trees (null ∷ []))) ∷ []))) ≡ Err (Form (codes "reformattedData")) }
+    // entries, before the context
+    ensures entries { (t : Tree) (w : FlatJwe) → received t ≡ Ok (received_with w null (null ∷ [])) → first_failed [] (codes "B") t ≡ Err NotBuilt }
+    // the context, before its keys
+    ensures context { (w : FlatJwe) → told_at_b [] w null ≡ Err NoContext }
+    // the keys, before the header
+    ensures no_keys { (w : FlatJwe) → told_at_b opened_both w null ≡ Err NoReceiveKeys }
+    // the header, before the tag
+    ensures header { (w : FlatJwe) (why : CipherWhy) → misfit key_b w ≡ Some why → opened key_b w ≡ None → told_at_b (keyed_both 0) w null ≡ Err (Cipher why) }
+    // the tag, before an earlier delivery
+    ensures tag { (w : FlatJwe) → misfit key_b w ≡ None → opened key_b w ≡ None → told_at_b after_delivery w null ≡ Err Integrity }
+    // an earlier delivery, before the values
+    ensures again { (w : FlatJwe) (plain : List ℕ) → OpensTo w plain → values_of plain ≡ None → told_at_b after_delivery w null ≡ Err (Replay 4) }
+    // the values, before the block
+    ensures values { (w : FlatJwe) (plain : List ℕ) → OpensTo w plain → values_of plain ≡ None → told_at_b (keyed_both 0) w null ≡ Err (Reconstruction no_values) }
+    // the block, before its fill
+    ensures block { (w : FlatJwe) (plain : List ℕ) → OpensTo w plain → values_of plain ≡ Some (null ∷ []) → told_at_b (keyed_both 0) w null ≡ Err (Reconstruction (no_block (bad_member (codes "metaData")))) }
+    ensures fill { (w : FlatJwe) (plain : List ℕ) → OpensTo w plain → values_of plain ≡ Some (null ∷ []) → told_at_b (keyed_both 0) w hidden_block ≡ Err (Reconstruction (no_fill (not_text 0))) }
+    // what stands in clear, before the room for the record
+    ensures clear { (records : List Record) (w : FlatJwe) (plain : List ℕ) → AwaitsThird records → record_limit ≤ length records → OpensTo w plain → values_of plain ≡ Some [] → told_at_b records w clear_block ≡ Err (InClear (path_var (codes "supi"))) }
+    ensures room { (records : List Record) (w : FlatJwe) (plain : List ℕ) → AwaitsThird records → record_limit ≤ length records → OpensTo w plain → values_of plain ≡ Some (words (codes "imsi-001010000000001") ∷ []) → told_at_b records w hidden_block ≡ Err NoRoom }
+    ensures delivered { (w : FlatJwe) (plain : List ℕ) → OpensTo w plain → values_of plain ≡ Some (words (codes "imsi-001010000000001") ∷ []) → told_at_b (keyed_both 0) w hidden_block ≡ Ok (record { content = slices_request; node = codes "B"; id = 177; kind = of_request; message = 3; mapping = Some 0 }) }
 {}

@@ -4,12 +4,13 @@ use Rattle.std.specs.Prelude.{count_by}
 use Rattle.std.proofs.lemmas.List.Sums.{sum_by-cons}
 use Rattle.spec_records.specs.Records.{KeySet, Context, Record}
 use Rattle.spec_exchange.specs.Chain.{◌>>=◌}
-use Rattle.spec_exchange.specs.Refusals as exchange
-use Rattle.spec_exchange.specs.Outside.{Choice, no_fault, Reading, Read, ReadFails, BadRecord, Putting, Kept, Lost, KeptUntold, Outcome, behind_reading, or_refusal}
+use Rattle.spec_exchange.specs.ReceivingRefusals as receiving
+use Rattle.spec_exchange.specs.SendingRefusals as sending
+use Rattle.spec_exchange.specs.Outside.{Choice, Cause, Own, Outside, no_fault, Reading, Read, ReadFails, BadRecord, Putting, Kept, Lost, KeptUntold, Outcome, behind_reading, or_refusal}
 use Rattle.spec_exchange.specs.Outside as outside
 use Rattle.spec_exchange.specs.FirstFailed.{Delivery, first_failed}
 use Rattle.spec_exchange.specs.Calls.{Sealed, Asks, delivered_record, sent_record, protected}
-use Rattle.spec_script.specs.Refusals.{Refusal, OfCall}
+use Rattle.spec_script.specs.Refusals.{Refusal}
 use Rattle.spec_script.specs.Events.{Event, AddNode, AddContext, AddKeys, Send, Inject, Deliver, Restart}
 use Rattle.spec_script.specs.Steps.{State, Answer, Step, or_refuses, puts, sends_sealed, sealed_answer, delivers, delivery_answer, has_read, opens, keys_up, step, step_with}
 use Rattle.spec_script.specs.Output.{RoseBy, HaveCauses, count_after, has_refusal, is_outside_refusal}
@@ -59,42 +60,45 @@ step_puts s Lost name r = record { is = λ e. cc }
 step_puts s KeptUntold name r = record { is = λ e. cc }
 
 -- a call is the other, where it answers no fault
-abbrev faulty : {T : Type 0} → Result T exchange.Refusal → Bool
+abbrev faulty : {R T : Type 0} → Result T (Cause R) → Bool
 faulty (Ok x) = false
-faulty (Err e) = is_outside_refusal (OfCall e)
+faulty (Err (Own refusal)) = false
+faulty (Err (Outside fault)) = true
 
-record SameCall {T : Type 0} (o p : Outcome T) : Type 0 where
+record SameCall {R T : Type 0} (o p : Outcome R T) : Type 0 where
   is : faulty o.result ≡ false → o ≡ p
 
-call_self : {T : Type 0} (o : Outcome T) → SameCall o o
+call_self : {R T : Type 0} (o : Outcome R T) → SameCall o o
 call_self o = record { is = λ e. refl }
 
-call_read : {T : Type 0} (reading : Reading) (o p : Outcome T) → SameCall o p → SameCall (behind_reading reading o) (behind_reading Read p)
+call_read : {R T : Type 0} (reading : Reading) (o p : Outcome R T) → SameCall o p → SameCall (behind_reading reading o) (behind_reading Read p)
 call_read Read o p h = h
 call_read ReadFails o p h = record { is = λ e. cc }
 call_read (BadRecord k) o p h = record { is = λ e. cc }
 
-call_puts : {T : Type 0} (p : Putting) (r : Record) (x : T) → SameCall (outside.puts p r x) (outside.puts Kept r x)
+call_puts : {R T : Type 0} (p : Putting) (r : Record) (x : T) → SameCall {R = R} (outside.puts p r x) (outside.puts Kept r x)
 call_puts Kept r x = call_self _
 call_puts Lost r x = record { is = λ e. cc }
 call_puts KeptUntold r x = record { is = λ e. cc }
 
-call_chain : {X : Type 0} (p : Putting) (item : X → Record) (r : Result X exchange.Refusal) → SameCall (or_refusal r (λ y. outside.puts p (item y) y)) (or_refusal r (λ y. outside.puts Kept (item y) y))
+call_chain : {R X : Type 0} (p : Putting) (item : X → Record) (r : Result X R) → SameCall (or_refusal r (λ y. outside.puts p (item y) y)) (or_refusal r (λ y. outside.puts Kept (item y) y))
 call_chain p item (Ok x) = call_puts p (item x) x
 call_chain p item (Err d) = call_self _
 
-sealed_faulty : (n : ℕ) (r : Result Sealed exchange.Refusal) → has_refusal is_outside_refusal (sealed_answer n r) ≡ faulty r
+sealed_faulty : (n : ℕ) (r : Result Sealed (Cause sending.Refusal)) → has_refusal is_outside_refusal (sealed_answer n r) ≡ faulty r
 sealed_faulty n (Ok x) = refl
-sealed_faulty n (Err e) = refl
+sealed_faulty n (Err (Own refusal)) = refl
+sealed_faulty n (Err (Outside fault)) = refl
 
-delivery_faulty : (r : Result Delivery exchange.Refusal) → has_refusal is_outside_refusal (delivery_answer r) ≡ faulty r
+delivery_faulty : (r : Result Delivery (Cause receiving.Refusal)) → has_refusal is_outside_refusal (delivery_answer r) ≡ faulty r
 delivery_faulty (Ok x) = refl
-delivery_faulty (Err e) = refl
+delivery_faulty (Err (Own refusal)) = refl
+delivery_faulty (Err (Outside fault)) = refl
 
-sealed-same : (s : State) (o p : Outcome Sealed) → SameCall o p → SameStep (sends_sealed s o) (sends_sealed s p)
+sealed-same : (s : State) (o p : Outcome sending.Refusal Sealed) → SameCall o p → SameStep (sends_sealed s o) (sends_sealed s p)
 sealed-same s o p h = record { is = λ z. ap (sends_sealed s) (h.is (sym (sealed_faulty _ o.result) ∙ z)) }
 
-delivery-same : (s : State) (o p : Outcome Delivery) → SameCall o p → SameStep (delivers s o) (delivers s p)
+delivery-same : (s : State) (o p : Outcome receiving.Refusal Delivery) → SameCall o p → SameStep (delivers s o) (delivers s p)
 delivery-same s o p h = record { is = λ z. ap (delivers s) (h.is (sym (delivery_faulty o.result) ∙ z)) }
 
 opens-same : (s : State) (f : Choice) (x : Context) → SameStep (or_refuses s (opens s f x)) (or_refuses s (opens s no_fault x))

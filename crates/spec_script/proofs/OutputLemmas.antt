@@ -8,8 +8,9 @@ use Rattle.std.proofs.lemmas.List.{append-nil}
 use Rattle.spec_documents.specs.Tree.{Tree}
 use Rattle.spec_messages.specs.Message.{Message, Kind}
 use Rattle.spec_records.specs.Records.{Record, own, is_delivery, is_numbered, was_delivered, was_sent}
-use Rattle.spec_exchange.specs.Refusals as exchange
-use Rattle.spec_exchange.specs.Outside.{Choice, Putting, Kept, Lost, KeptUntold, with_put}
+use Rattle.spec_exchange.specs.ReceivingRefusals as receiving
+use Rattle.spec_exchange.specs.SendingRefusals as sending
+use Rattle.spec_exchange.specs.Outside.{Choice, Cause, Putting, Kept, Lost, KeptUntold, with_put}
 use Rattle.spec_exchange.specs.FirstFailed.{Delivery}
 use Rattle.spec_exchange.specs.Calls.{Sealed, Asks, accepted, sends}
 use Rattle.spec_exchange.specs.Runs
@@ -59,19 +60,19 @@ counts p q node id s f e sealed came line = line_covered (λ r. Counts p q node 
   came = came;
 }) (line_event line)
 
-delivers_told : (node : List ℕ) (id : ℕ) (kind : Kind) (message : ℕ) (r : Result Delivery exchange.Refusal) → Runs.delivers node id kind message (reply_in (delivery_answer r)) ≡ Runs.delivers node id kind message (Runs.told r)
+delivers_told : (node : List ℕ) (id : ℕ) (kind : Kind) (message : ℕ) (r : Result Delivery (Cause receiving.Refusal)) → Runs.delivers node id kind message (reply_in (delivery_answer r)) ≡ Runs.delivers node id kind message (Runs.told r)
 delivers_told node id kind message (Ok d) = refl
 delivers_told node id kind message (Err e) = refl
 
-numbers_made : (node : List ℕ) (id : ℕ) (kind : Kind) (seq n : ℕ) (r : Result Sealed exchange.Refusal) → Runs.numbers node id kind seq (reply_in (sealed_answer n r)) ≡ Runs.numbers node id kind seq (Runs.made r)
+numbers_made : (node : List ℕ) (id : ℕ) (kind : Kind) (seq n : ℕ) (r : Result Sealed (Cause sending.Refusal)) → Runs.numbers node id kind seq (reply_in (sealed_answer n r)) ≡ Runs.numbers node id kind seq (Runs.made r)
 numbers_made node id kind seq n (Ok x) = refl
 numbers_made node id kind seq n (Err e) = refl
 
-sealed_not : (node : List ℕ) (id : ℕ) (kind : Kind) (message n : ℕ) (r : Result Sealed exchange.Refusal) → Runs.delivers node id kind message (reply_in (sealed_answer n r)) ≡ false
+sealed_not : (node : List ℕ) (id : ℕ) (kind : Kind) (message n : ℕ) (r : Result Sealed (Cause sending.Refusal)) → Runs.delivers node id kind message (reply_in (sealed_answer n r)) ≡ false
 sealed_not node id kind message n (Ok x) = refl
 sealed_not node id kind message n (Err e) = refl
 
-came_not : (node : List ℕ) (id : ℕ) (kind : Kind) (seq : ℕ) (r : Result Delivery exchange.Refusal) → Runs.numbers node id kind seq (reply_in (delivery_answer r)) ≡ false
+came_not : (node : List ℕ) (id : ℕ) (kind : Kind) (seq : ℕ) (r : Result Delivery (Cause receiving.Refusal)) → Runs.numbers node id kind seq (reply_in (delivery_answer r)) ≡ false
 came_not node id kind seq (Ok d) = refl
 came_not node id kind seq (Err e) = refl
 

@@ -3,12 +3,13 @@ use Rattle.std.proofs.Common.{◌≡◌, ℕ, suc, ◌+◌, true, false, List, [
 use Rattle.std.specs.Prelude.{slice_get}
 use Rattle.spec_documents.specs.Tree.{Tree}
 use Rattle.spec_records.specs.Records.{Record}
-use Rattle.spec_exchange.specs.Refusals as exchange
-use Rattle.spec_exchange.specs.Outside.{Choice, Reading, Read, ReadFails, BadRecord, Putting, Kept, Lost, KeptUntold, Outcome, behind_reading, or_refusal}
+use Rattle.spec_exchange.specs.ReceivingRefusals as receiving
+use Rattle.spec_exchange.specs.SendingRefusals as sending
+use Rattle.spec_exchange.specs.Outside.{Choice, Cause, Own, Outside, Journal, Keeper, Reading, Read, ReadFails, BadRecord, Putting, Kept, Lost, KeptUntold, Outcome, behind_reading, or_refusal}
 use Rattle.spec_exchange.specs.Outside as outside
 use Rattle.spec_exchange.specs.FirstFailed.{Delivery, first_failed}
 use Rattle.spec_exchange.specs.Calls.{Sealed, Asks, delivered_record, sent_record, accepted, sends, protected}
-use Rattle.spec_script.specs.Refusals.{Refusal, OfCall}
+use Rattle.spec_script.specs.Refusals.{Refusal, OfOutside}
 use Rattle.spec_script.specs.Events.{line_event}
 use Rattle.spec_script.specs.Steps.{State, OnWire, Sends, Refuses, Step, after, refuses, puts, sends_sealed, delivers, next_number, wire_at, line_step}
 use Rattle.spec_script.specs.Output.{is_keeper_refusal}
@@ -25,46 +26,58 @@ refusal_keeps : (s : State) (d : Refusal) → Keeps s (refuses s d)
 refusal_keeps s d = record { sites = λ e h. refl; sent = λ e h. refl; put = λ e h k. refl }
 
 -- a refusal that is the keeper's and isn't
-other_than_keeper : {P : Type 0} (e : Refusal) → OfCall exchange.Keeper ≡ e → is_keeper_refusal e ≡ false → P
+other_than_keeper : {P : Type 0} (e : Refusal) → OfOutside Keeper ≡ e → is_keeper_refusal e ≡ false → P
 other_than_keeper e same k = let told : true ≡ false = ap is_keeper_refusal same ∙ k in cc
 
 put_keeps : (s : State) (p : Putting) (name : List ℕ) (r : Record) → Keeps s (puts s p name r)
 put_keeps s Kept name r = record { sites = λ e h. refl; sent = λ e h. refl; put = λ e h k. cc }
 put_keeps s Lost name r = refusal_keeps s _
-put_keeps s KeptUntold name r = record { sites = λ e h. refl; sent = λ e h. refl; put = λ e h k. let same : OfCall exchange.Keeper ≡ e = cc in other_than_keeper e same k }
+put_keeps s KeptUntold name r = record { sites = λ e h. refl; sent = λ e h. refl; put = λ e h k. let same : OfOutside Keeper ≡ e = cc in other_than_keeper e same k }
 
--- a call that answers a refusal other than the keeper's puts nothing
-pub record Clean {T : Type 0} (o : Outcome T) : Type 0 where
-  pub is : (e : exchange.Refusal) → o.result ≡ Err e → is_keeper_refusal (OfCall e) ≡ false → o.put ≡ None
+abbrev is_keeper_cause : {R : Type 0} → Cause R → Bool
+is_keeper_cause (Own refusal) = false
+is_keeper_cause (Outside Keeper) = true
+is_keeper_cause (Outside (Journal number)) = false
 
-clean_refused : {T : Type 0} (d : exchange.Refusal) → Clean (outside.refused {T = T} d)
+other_cause : {R P : Type 0} (e : Cause R) → Outside Keeper ≡ e → is_keeper_cause e ≡ false → P
+other_cause e same k = let told : true ≡ false = ap is_keeper_cause same ∙ k in cc
+
+-- a call that answers anything but the keeper's fault puts nothing, where it is refused
+pub record Clean {R T : Type 0} (o : Outcome R T) : Type 0 where
+  pub is : (e : Cause R) → o.result ≡ Err e → is_keeper_cause e ≡ false → o.put ≡ None
+
+clean_refused : {R T : Type 0} (d : Cause R) → Clean (outside.refused {R = R} {T = T} d)
 clean_refused d = record { is = λ e h k. refl }
 
-clean_puts : {T : Type 0} (p : Putting) (r : Record) (x : T) → Clean (outside.puts p r x)
+clean_puts : {R T : Type 0} (p : Putting) (r : Record) (x : T) → Clean {R = R} (outside.puts p r x)
 clean_puts Kept r x = record { is = λ e h k. cc }
 clean_puts Lost r x = record { is = λ e h k. refl }
-clean_puts KeptUntold r x = record { is = λ e h k. let same : OfCall exchange.Keeper ≡ OfCall e = cc in other_than_keeper (OfCall e) same k }
+clean_puts {R} KeptUntold r x = record { is = λ (e : Cause R) h k. let same : Outside Keeper ≡ e = cc in other_cause e same k }
 
-clean_chain : {X : Type 0} (p : Putting) (item : X → Record) (r : Result X exchange.Refusal) → Clean (or_refusal r (λ y. outside.puts p (item y) y))
+clean_chain : {R X : Type 0} (p : Putting) (item : X → Record) (r : Result X R) → Clean (or_refusal r (λ y. outside.puts p (item y) y))
 clean_chain p item (Ok x) = clean_puts p (item x) x
-clean_chain p item (Err d) = clean_refused d
+clean_chain p item (Err d) = clean_refused (Own d)
 
-clean_read : {T : Type 0} (reading : Reading) (o : Outcome T) → Clean o → Clean (behind_reading reading o)
+clean_read : {R T : Type 0} (reading : Reading) (o : Outcome R T) → Clean o → Clean (behind_reading reading o)
 clean_read Read o h = h
 clean_read ReadFails o h = clean_refused _
 clean_read (BadRecord k) o h = clean_refused _
 
 -- the refusal of a call puts nothing
-abbrev PutsNone : {T : Type 0} → Result T exchange.Refusal → Option Record → Type 0
-PutsNone r p = (e : exchange.Refusal) → r ≡ Err e → is_keeper_refusal (OfCall e) ≡ false → p ≡ None
+abbrev PutsNone : {R T : Type 0} → Result T (Cause R) → Option Record → Type 0
+PutsNone {R} r p = (e : Cause R) → r ≡ Err e → is_keeper_cause e ≡ false → p ≡ None
 
-sealed_keeps : (s : State) (r : Result Sealed exchange.Refusal) (p : Option Record) → PutsNone r p → Keeps s (sends_sealed s (record { result = r; put = p }))
+sealed_keeps : (s : State) (r : Result Sealed (Cause sending.Refusal)) (p : Option Record) → PutsNone r p → Keeps s (sends_sealed s (record { result = r; put = p }))
 sealed_keeps s (Ok x) p c = record { sites = λ e h. refl; sent = λ e h. cc; put = λ e h k. cc }
-sealed_keeps s (Err d) p c = record { sites = λ e h. refl; sent = λ e h. refl; put = λ e h k. c d refl (let same : OfCall d ≡ e = cc in ap is_keeper_refusal same ∙ k) }
+sealed_keeps s (Err (Own d)) p c = record { sites = λ e h. refl; sent = λ e h. refl; put = λ e h k. c (Own d) refl refl }
+sealed_keeps s (Err (Outside (Journal n))) p c = record { sites = λ e h. refl; sent = λ e h. refl; put = λ e h k. c (Outside (Journal n)) refl refl }
+sealed_keeps s (Err (Outside Keeper)) p c = record { sites = λ e h. refl; sent = λ e h. refl; put = λ e h k. let same : OfOutside Keeper ≡ e = cc in other_than_keeper e same k }
 
-delivery_keeps : (s : State) (r : Result Delivery exchange.Refusal) (p : Option Record) → PutsNone r p → Keeps s (delivers s (record { result = r; put = p }))
+delivery_keeps : (s : State) (r : Result Delivery (Cause receiving.Refusal)) (p : Option Record) → PutsNone r p → Keeps s (delivers s (record { result = r; put = p }))
 delivery_keeps s (Ok x) p c = record { sites = λ e h. refl; sent = λ e h. refl; put = λ e h k. cc }
-delivery_keeps s (Err d) p c = record { sites = λ e h. refl; sent = λ e h. refl; put = λ e h k. c d refl (let same : OfCall d ≡ e = cc in ap is_keeper_refusal same ∙ k) }
+delivery_keeps s (Err (Own d)) p c = record { sites = λ e h. refl; sent = λ e h. refl; put = λ e h k. c (Own d) refl refl }
+delivery_keeps s (Err (Outside (Journal n))) p c = record { sites = λ e h. refl; sent = λ e h. refl; put = λ e h k. c (Outside (Journal n)) refl refl }
+delivery_keeps s (Err (Outside Keeper)) p c = record { sites = λ e h. refl; sent = λ e h. refl; put = λ e h k. let same : OfOutside Keeper ≡ e = cc in other_than_keeper e same k }
 
 pub line_keeps : (s : State) (f : Choice) (line : List ℕ) → Keeps s (line_step s f line)
 line_keeps s f line = line_covered (λ r. Keeps s r) s f (record {
@@ -101,11 +114,11 @@ put_wires s Kept name r = record { sealed = λ x k e. cc; injected = λ k e. cc 
 put_wires s Lost name r = record { sealed = λ x k e. cc; injected = λ k e. cc }
 put_wires s KeptUntold name r = record { sealed = λ x k e. cc; injected = λ k e. cc }
 
-sealed_wires : (s : State) (r : Result Sealed exchange.Refusal) (p : Option Record) → Wires s (sends_sealed s (record { result = r; put = p }))
+sealed_wires : (s : State) (r : Result Sealed (Cause sending.Refusal)) (p : Option Record) → Wires s (sends_sealed s (record { result = r; put = p }))
 sealed_wires s (Ok y) p = record { sealed = λ x k e. (cc, cc); injected = λ k e. cc }
 sealed_wires s (Err d) p = record { sealed = λ x k e. cc; injected = λ k e. cc }
 
-delivery_wires : (s : State) (r : Result Delivery exchange.Refusal) (p : Option Record) → Wires s (delivers s (record { result = r; put = p }))
+delivery_wires : (s : State) (r : Result Delivery (Cause receiving.Refusal)) (p : Option Record) → Wires s (delivers s (record { result = r; put = p }))
 delivery_wires s (Ok y) p = record { sealed = λ x k e. cc; injected = λ k e. cc }
 delivery_wires s (Err d) p = record { sealed = λ x k e. cc; injected = λ k e. cc }
 

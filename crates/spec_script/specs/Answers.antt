@@ -5,7 +5,7 @@ use Rattle.spec_documents.specs.Compact.{compact_text}
 use Rattle.spec_documents.specs.Ids.{id_text}
 use Rattle.spec_messages.specs.Printing.{message_tree}
 use Rattle.spec_script.specs.Refusals.{Refusal}
-use Rattle.spec_script.specs.RefusalTexts.{refusal_number, refusal_name, refusal_detail}
+use Rattle.spec_script.specs.RefusalTexts.{telling}
 use Rattle.spec_script.specs.Steps.{Answer, Fine, OnWire, Sends, Delivers, Refuses}
 
 abbrev pub number_tree : ℕ → Tree
@@ -18,10 +18,10 @@ with_detail (Some detail) ms = put_member (codes "detail") (words detail) ms
 
 -- the refusal of line n
 abbrev pub refusal_tree : ℕ → Refusal → Tree
-refusal_tree n e = members (with_detail (refusal_detail e) (object (
+refusal_tree n e = members (with_detail (telling e).detail (object (
     (codes "line", number_tree n)
-    ∷ (codes "name", words (refusal_name e))
-    ∷ (codes "refused", number_tree (refusal_number e)) ∷ [])))
+    ∷ (codes "name", words (telling e).name)
+    ∷ (codes "refused", number_tree (telling e).number) ∷ [])))
 
 -- the document that answers line n
 abbrev pub answer_tree : ℕ → Answer → Tree

@@ -2,11 +2,10 @@
 use Rattle.std.specs.Prelude.{◌≡◌, ℕ, ◌+◌, ◌-◌, ◌^◌, ◌≤◌, min, Bool, true, false, MatchBool, List, [], ◌∷◌, ◌++◌}
 use Rattle.spec_messages.specs.Message.{Kind}
 use Rattle.spec_records.specs.Records.{Record}
-use Rattle.spec_exchange.specs.Refusals.{Keeper, Journal}
-use Rattle.spec_exchange.specs.Outside.{Choice}
+use Rattle.spec_exchange.specs.Outside.{Choice, Keeper}
 use Rattle.spec_exchange.specs.Runs
 use Rattle.script_loop.specs.Lines.{lines_of, is_blank}
-use Rattle.spec_script.specs.Refusals.{Refusal, OfCall}
+use Rattle.spec_script.specs.Refusals.{Refusal, OfOutside}
 use Rattle.spec_script.specs.Steps.{State, Answer, Sends, Delivers, Refuses, after, line_step}
 use Rattle.spec_script.specs.Answers.{answer_text}
 
@@ -68,13 +67,12 @@ has_refusal p (Refuses e) = p e
 has_refusal p _ = false
 
 abbrev pub is_keeper_refusal : Refusal → Bool
-is_keeper_refusal (OfCall Keeper) = true
+is_keeper_refusal (OfOutside Keeper) = true
 is_keeper_refusal _ = false
 
 -- an answer that only a fault of the keeper, or a record that it holds, gives
 abbrev pub is_outside_refusal : Refusal → Bool
-is_outside_refusal (OfCall Keeper) = true
-is_outside_refusal (OfCall (Journal number)) = true
+is_outside_refusal (OfOutside fault) = true
 is_outside_refusal _ = false
 
 -- ---- counts of faults

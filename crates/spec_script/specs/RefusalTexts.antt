@@ -1,89 +1,13 @@
--- The numbers, names and details of refusals (this project's own).
-use Rattle.std.specs.Prelude.{ℕ, List, [], ◌∷◌, ◌++◌, Option, Some, None, codes}
+-- How the refusals of a script are told: their numbers, names and details (this project's own). Those of sending, of receiving and of the outside are told by their own tables.
+use Rattle.std.specs.Prelude.{ℕ, List, codes}
 use Rattle.std.specs.Fmt.{decimal}
-use Rattle.spec_documents.specs.Place.{pointer_text}
-use Rattle.spec_documents.specs.Hole.{HolePlace, HoleFault, bad_hole, twice, missing}
 use Rattle.spec_messages.specs.Message.{Member, no_object, request_line, status_line, method, scheme, authority, path, version, query, headers}
-use Rattle.spec_messages.specs.AddressText.{address_text}
-use Rattle.spec_messages.specs.Fault as block
-use Rattle.spec_messages.specs.Rebuilt.{FillFault, not_text, too_deep}
-use Rattle.jwe_flat.specs.declared.opening.CipherWhy.{CipherWhy}
-use Rattle.jwe_flat.specs.declared.opening.CipherWhy.TheVariants.{Alg, Enc, Zip, Crit}
-use Rattle.spec_exchange.specs.Rebuilding.{RebuildWhy, no_values, no_block, no_fill}
-use Rattle.spec_exchange.specs.Refusals as exchange
-use Rattle.spec_script.specs.Refusals.{Refusal, Syntax, OtherNumber, BadEvent, NodeUnknown, NodeExists, WireUnknown, BadMessage, DeepBody, BadPolicy, ContextUsed, KeysTwice, OfCall}
-
--- ---- numbers
-
-abbrev pub call_number : exchange.Refusal → ℕ
-call_number (exchange.Beyond l) = 7
-call_number (exchange.Journal k) = 9
-call_number exchange.ContextNotFound = 10
-call_number exchange.NoKeys = 11
-call_number exchange.SeqSpent = 12
-call_number exchange.NoRequest = 15
-call_number exchange.Answered = 16
-call_number (exchange.Form k) = 20
-call_number exchange.NoContext = 21
-call_number exchange.NoReceiveKeys = 22
-call_number (exchange.Cipher why) = 23
-call_number exchange.Integrity = 24
-call_number (exchange.Replay k) = 25
-call_number (exchange.Reconstruction why) = 26
-call_number (exchange.InClear a) = 27
-call_number exchange.Keeper = 34
-call_number exchange.NotBuilt = 47
-
-abbrev pub refusal_number : Refusal → ℕ
-refusal_number Syntax = 1
-refusal_number OtherNumber = 2
-refusal_number (BadEvent k) = 3
-refusal_number NodeUnknown = 4
-refusal_number NodeExists = 5
-refusal_number WireUnknown = 6
-refusal_number KeysTwice = 8
-refusal_number (BadMessage k) = 13
-refusal_number DeepBody = 14
-refusal_number (BadPolicy k) = 17
-refusal_number ContextUsed = 44
-refusal_number (OfCall e) = call_number e
-
--- ---- names
-
-abbrev pub call_name : exchange.Refusal → List ℕ
-call_name (exchange.Beyond l) = codes "LIMIT"
-call_name (exchange.Journal k) = codes "JOURNAL"
-call_name exchange.ContextNotFound = codes "CONTEXT_NOT_FOUND"
-call_name exchange.NoKeys = codes "NO_KEYS"
-call_name exchange.SeqSpent = codes "SEQ_SPENT"
-call_name exchange.NoRequest = codes "NO_REQUEST"
-call_name exchange.Answered = codes "ANSWERED"
-call_name (exchange.Form k) = codes "FORM"
-call_name exchange.NoContext = codes "CONTEXT_NOT_FOUND"
-call_name exchange.NoReceiveKeys = codes "NO_KEYS"
-call_name (exchange.Cipher why) = codes "CIPHER"
-call_name exchange.Integrity = codes "INTEGRITY"
-call_name (exchange.Replay k) = codes "REPLAY"
-call_name (exchange.Reconstruction why) = codes "RECONSTRUCTION"
-call_name (exchange.InClear a) = codes "POLICY"
-call_name exchange.Keeper = codes "KEEPER"
-call_name exchange.NotBuilt = codes "NOT_BUILT"
-
-abbrev pub refusal_name : Refusal → List ℕ
-refusal_name Syntax = codes "SYNTAX"
-refusal_name OtherNumber = codes "NUMBER"
-refusal_name (BadEvent k) = codes "EVENT"
-refusal_name NodeUnknown = codes "NODE_UNKNOWN"
-refusal_name NodeExists = codes "NODE_EXISTS"
-refusal_name WireUnknown = codes "WIRE_UNKNOWN"
-refusal_name KeysTwice = codes "KEYS_TWICE"
-refusal_name (BadMessage k) = codes "MESSAGE"
-refusal_name DeepBody = codes "DEPTH"
-refusal_name (BadPolicy k) = codes "POLICY_FORM"
-refusal_name ContextUsed = codes "CONTEXT_USED"
-refusal_name (OfCall e) = call_name e
-
--- ---- details
+use Rattle.spec_exchange.specs.Limits.{limit_name}
+use Rattle.spec_exchange.specs.Telling.{Telling, bare, detailed}
+use Rattle.spec_exchange.specs.ReceivingRefusals as receiving
+use Rattle.spec_exchange.specs.SendingRefusals as sending
+use Rattle.spec_exchange.specs.Outside.{fault_telling}
+use Rattle.spec_script.specs.Refusals.{Refusal, Syntax, OtherNumber, BadEvent, NodeUnknown, NodeExists, WireUnknown, Beyond, KeysTwice, ContextNotFound, BadMessage, DeepBody, BadPolicy, ContextUsed, NotBuilt, OfSending, OfReceiving, OfOutside}
 
 -- a member's name, or `message` where the document is no object
 abbrev pub member_name : Member → List ℕ
@@ -98,83 +22,21 @@ member_name version = codes "protocolVersion"
 member_name query = codes "queryFragment"
 member_name headers = codes "headers"
 
-abbrev pub limit_name : exchange.Limit → List ℕ
-limit_name exchange.many_headers = codes "headers"
-limit_name exchange.many_items = codes "payload"
-limit_name exchange.many_values = codes "values"
-limit_name exchange.long_block = codes "block"
-limit_name exchange.many_records = codes "records"
-
-abbrev pub cipher_name : CipherWhy → List ℕ
-cipher_name Alg = codes "alg"
-cipher_name Enc = codes "enc"
-cipher_name Zip = codes "zip"
-cipher_name Crit = codes "crit"
-
-abbrev pub block_limit_name : block.Limit → List ℕ
-block_limit_name block.many_headers = codes "headers"
-block_limit_name block.many_items = codes "payload"
-block_limit_name block.many_values = codes "values"
-
-abbrev pub part_text : Option ℕ → List ℕ
-part_text None = []
-part_text (Some k) = 35 ∷ decimal k
-
--- a hole's place: its pointer, with `#` and the number of its segment or pair where it stands in a text
-abbrev pub place_text : HolePlace → List ℕ
-place_text h = pointer_text h.pointer ++ part_text h.part
-
-abbrev pub hole_text : HoleFault → List ℕ
-hole_text (bad_hole h) = codes "BAD_HOLE " ++ place_text h
-hole_text (twice n) = codes "TWICE " ++ decimal n
-hole_text (missing n) = codes "MISSING " ++ decimal n
-
-abbrev pub block_text : block.BlockFault → List ℕ
-block_text (block.bad_member k) = codes "MEMBER " ++ k
-block_text (block.beyond l) = codes "LIMIT " ++ block_limit_name l
-block_text (block.ie_path k) = codes "IE_PATH " ++ decimal k
-block_text (block.overlap k) = codes "OVERLAP " ++ decimal k
-block_text (block.bad_holes why) = hole_text why
-block_text block.deep = codes "DEPTH"
-
-abbrev pub fill_text : FillFault → List ℕ
-fill_text (not_text n) = codes "NOT_TEXT " ++ decimal n
-fill_text too_deep = codes "DEPTH"
-
-abbrev pub rebuild_text : RebuildWhy → List ℕ
-rebuild_text no_values = codes "VALUES"
-rebuild_text (no_block why) = block_text why
-rebuild_text (no_fill why) = fill_text why
-
-abbrev pub call_detail : exchange.Refusal → Option (List ℕ)
-call_detail (exchange.Beyond l) = Some (limit_name l)
-call_detail (exchange.Journal k) = Some (decimal k)
-call_detail (exchange.Form k) = Some k
-call_detail (exchange.Cipher why) = Some (cipher_name why)
-call_detail (exchange.Replay k) = Some (decimal k)
-call_detail (exchange.Reconstruction why) = Some (rebuild_text why)
-call_detail (exchange.InClear a) = Some (address_text a)
-call_detail exchange.ContextNotFound = None
-call_detail exchange.NoKeys = None
-call_detail exchange.SeqSpent = None
-call_detail exchange.NoRequest = None
-call_detail exchange.Answered = None
-call_detail exchange.NoContext = None
-call_detail exchange.NoReceiveKeys = None
-call_detail exchange.Integrity = None
-call_detail exchange.Keeper = None
-call_detail exchange.NotBuilt = None
-
-abbrev pub refusal_detail : Refusal → Option (List ℕ)
-refusal_detail Syntax = None
-refusal_detail OtherNumber = None
-refusal_detail (BadEvent k) = Some k
-refusal_detail NodeUnknown = None
-refusal_detail NodeExists = None
-refusal_detail WireUnknown = None
-refusal_detail KeysTwice = None
-refusal_detail (BadMessage k) = Some (member_name k)
-refusal_detail DeepBody = None
-refusal_detail (BadPolicy k) = Some (decimal k)
-refusal_detail ContextUsed = None
-refusal_detail (OfCall e) = call_detail e
+abbrev pub telling : Refusal → Telling
+telling Syntax = bare 1 (codes "SYNTAX")
+telling OtherNumber = bare 2 (codes "NUMBER")
+telling (BadEvent member) = detailed 3 (codes "EVENT") member
+telling NodeUnknown = bare 4 (codes "NODE_UNKNOWN")
+telling NodeExists = bare 5 (codes "NODE_EXISTS")
+telling WireUnknown = bare 6 (codes "WIRE_UNKNOWN")
+telling (Beyond limit) = detailed 7 (codes "LIMIT") (limit_name limit)
+telling KeysTwice = bare 8 (codes "KEYS_TWICE")
+telling ContextNotFound = bare 10 (codes "CONTEXT_NOT_FOUND")
+telling (BadMessage member) = detailed 13 (codes "MESSAGE") (member_name member)
+telling DeepBody = bare 14 (codes "DEPTH")
+telling (BadPolicy mapping) = detailed 17 (codes "POLICY_FORM") (decimal mapping)
+telling ContextUsed = bare 44 (codes "CONTEXT_USED")
+telling NotBuilt = bare 47 (codes "NOT_BUILT")
+telling (OfSending refusal) = sending.telling refusal
+telling (OfReceiving refusal) = receiving.telling refusal
+telling (OfOutside fault) = fault_telling fault

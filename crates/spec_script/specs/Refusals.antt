@@ -1,7 +1,10 @@
 -- Why a line of a script is refused (this project's own).
 use Rattle.std.specs.Prelude.{ℕ, List}
 use Rattle.spec_messages.specs.Message.{Member}
-use Rattle.spec_exchange.specs.Refusals as exchange
+use Rattle.spec_exchange.specs.Limits.{Limit}
+use Rattle.spec_exchange.specs.ReceivingRefusals as receiving
+use Rattle.spec_exchange.specs.SendingRefusals as sending
+use Rattle.spec_exchange.specs.Outside.{Fault, Cause, Own, Outside}
 
 pub data Refusal : Type 0 where
   -- no JSON value in UTF-8 that nests at most 127 deep
@@ -13,6 +16,11 @@ pub data Refusal : Type 0 where
   NodeUnknown : Refusal
   NodeExists : Refusal
   WireUnknown : Refusal
+  -- there is too much of this
+  Beyond : (limit : Limit) → Refusal
+  KeysTwice : Refusal
+  -- the node has no open context of that id to hand keys to
+  ContextNotFound : Refusal
   -- the first member that keeps the document from being a message
   BadMessage : (member : Member) → Refusal
   -- a message's body is deeper than 64
@@ -20,6 +28,14 @@ pub data Refusal : Type 0 where
   -- the number of the first bad mapping, from 1, or 0 where the rest of the policy is bad
   BadPolicy : (mapping : ℕ) → Refusal
   ContextUsed : Refusal
-  KeysTwice : Refusal
-  -- of sending and receiving, of the keeper and of the limits
-  OfCall : (refusal : exchange.Refusal) → Refusal
+  -- what the event asks for isn't built yet
+  NotBuilt : Refusal
+  -- of sending, of receiving, and of the outside
+  OfSending : (refusal : sending.Refusal) → Refusal
+  OfReceiving : (refusal : receiving.Refusal) → Refusal
+  OfOutside : (fault : Fault) → Refusal
+
+-- why a call comes to nothing, as a refusal of its event
+abbrev pub of_cause : {R : Type 0} → (R → Refusal) → Cause R → Refusal
+of_cause own (Own refusal) = own refusal
+of_cause own (Outside fault) = OfOutside fault

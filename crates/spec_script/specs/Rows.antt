@@ -3,7 +3,7 @@ use Rattle.std.specs.Prelude.{ℕ, zero, suc, List, [], ◌∷◌, ◌++◌, cod
 use Rattle.spec_documents.specs.Tree.{Tree, null, words, items, members, object, trees}
 use Rattle.spec_records.specs.Records.{Record, A128Gcm, Opened, Keyed}
 use Rattle.spec_records.specs.RecordRows.{context_with, keys_from}
-use Rattle.spec_exchange.specs.Outside.{Choice, Read, BadRecord, Kept, KeptUntold}
+use Rattle.spec_exchange.specs.Outside.{Choice, Read, BadRecord, Kept, Lost, KeptUntold}
 use Rattle.spec_script.specs.Events.{HandedContext}
 use Rattle.spec_script.specs.Steps.{State}
 
@@ -82,6 +82,9 @@ opened = Opened (context_with (codes "B")) ∷ []
 
 abbrev pub keyed : List Record
 keyed = opened ++ Keyed (codes "A") 161 (keys_from 3) ∷ []
+
+abbrev pub lost : Choice
+lost = record { reading = Read; putting = Lost }
 
 abbrev pub untold : Choice
 untold = record { reading = Read; putting = KeptUntold }

@@ -6,12 +6,13 @@ use Rattle.spec_messages.specs.Policy.{Policy}
 use Rattle.spec_messages.specs.PolicyDocument.{policy_of}
 use Rattle.spec_records.specs.Records.{KeySet, Context, Record, Opened, Keyed, record_limit, keys_fit, used, open_context, keys}
 use Rattle.spec_exchange.specs.Chain.{◌>>=◌, unless, or_refused}
-use Rattle.spec_exchange.specs.Refusals.{Beyond, many_records, ContextNotFound, Keeper, Journal, NotBuilt}
-use Rattle.spec_exchange.specs.Refusals as exchange
-use Rattle.spec_exchange.specs.Outside.{Choice, Reading, Read, ReadFails, BadRecord, Putting, Kept, Lost, KeptUntold, Outcome, with_put}
+use Rattle.spec_exchange.specs.Limits.{many_records}
+use Rattle.spec_exchange.specs.ReceivingRefusals as receiving
+use Rattle.spec_exchange.specs.SendingRefusals as sending
+use Rattle.spec_exchange.specs.Outside.{Choice, Cause, Keeper, Journal, Reading, Read, ReadFails, BadRecord, Putting, Kept, Lost, KeptUntold, Outcome, with_put}
 use Rattle.spec_exchange.specs.FirstFailed.{Delivery}
 use Rattle.spec_exchange.specs.Calls.{Sealed, Asks, accepted, sends}
-use Rattle.spec_script.specs.Refusals.{Refusal, BadEvent, NodeUnknown, NodeExists, WireUnknown, BadMessage, DeepBody, BadPolicy, ContextUsed, KeysTwice, OfCall}
+use Rattle.spec_script.specs.Refusals.{Refusal, BadEvent, NodeUnknown, NodeExists, WireUnknown, Beyond, KeysTwice, ContextNotFound, BadMessage, DeepBody, BadPolicy, ContextUsed, NotBuilt, OfSending, OfReceiving, OfOutside, of_cause}
 use Rattle.spec_script.specs.Events.{HandedContext, Event, AddNode, AddContext, AddKeys, Send, Inject, Deliver, Restart, line_event}
 
 -- a node, and the PLMN id of its network
@@ -74,25 +75,25 @@ adds_node s node plmn = record { answer = Fine (codes "node"); put = None; sent 
 -- the event of that name is done once its record is put. A put that fails may have kept the record
 abbrev pub puts : State → Putting → List ℕ → Record → Step
 puts s Kept name r = record { answer = Fine name; put = Some r; sent = None; sites = s.sites }
-puts s Lost name r = refuses s (OfCall Keeper)
-puts s KeptUntold name r = record { answer = Refuses (OfCall Keeper); put = Some r; sent = None; sites = s.sites }
+puts s Lost name r = refuses s (OfOutside Keeper)
+puts s KeptUntold name r = record { answer = Refuses (OfOutside Keeper); put = Some r; sent = None; sites = s.sites }
 
-abbrev pub sealed_answer : ℕ → Result Sealed exchange.Refusal → Answer
+abbrev pub sealed_answer : ℕ → Result Sealed (Cause sending.Refusal) → Answer
 sealed_answer number (Ok x) = Sends x number
-sealed_answer number (Err e) = Refuses (OfCall e)
+sealed_answer number (Err e) = Refuses (of_cause OfSending e)
 
-abbrev pub sealed_sent : Result Sealed exchange.Refusal → Option Tree
+abbrev pub sealed_sent : Result Sealed (Cause sending.Refusal) → Option Tree
 sealed_sent (Ok x) = Some x.document
 sealed_sent (Err e) = None
 
-abbrev pub sends_sealed : State → Outcome Sealed → Step
+abbrev pub sends_sealed : State → Outcome sending.Refusal Sealed → Step
 sends_sealed s o = record { answer = sealed_answer (next_number s) o.result; put = o.put; sent = sealed_sent o.result; sites = s.sites }
 
-abbrev pub delivery_answer : Result Delivery exchange.Refusal → Answer
+abbrev pub delivery_answer : Result Delivery (Cause receiving.Refusal) → Answer
 delivery_answer (Ok d) = Delivers d
-delivery_answer (Err e) = Refuses (OfCall e)
+delivery_answer (Err e) = Refuses (of_cause OfReceiving e)
 
-abbrev pub delivers : State → Outcome Delivery → Step
+abbrev pub delivers : State → Outcome receiving.Refusal Delivery → Step
 delivers s o = record { answer = delivery_answer o.result; put = o.put; sent = None; sites = s.sites }
 
 -- ---- checks
@@ -128,7 +129,7 @@ is_of_response (members ms) = is_some (get_member (codes "statusLine") ms)
 -- the request to send
 abbrev pub request_to_send : Tree → Option ℕ → Result Message Refusal
 request_to_send t answers = do
-  _ ← unless (is_of_response t) (OfCall NotBuilt)
+  _ ← unless (is_of_response t) NotBuilt
   m ← or_refused BadMessage (message_of t)
   _ ← unless (nat_lt 64 (body_depth m.body)) DeepBody
   _ ← unless (is_some answers) (BadEvent (codes "answers"))
@@ -140,11 +141,11 @@ policy_to_hold t = or_refused BadPolicy (policy_of t)
 -- a stale store is read again
 abbrev pub has_read : Reading → Result (Unit {0}) Refusal
 has_read Read = Ok tt
-has_read ReadFails = Err (OfCall Keeper)
-has_read (BadRecord k) = Err (OfCall (Journal k))
+has_read ReadFails = Err (OfOutside Keeper)
+has_read (BadRecord k) = Err (OfOutside (Journal k))
 
 abbrev pub room_for_record : State → Result (Unit {0}) Refusal
-room_for_record s = unless (nat_le record_limit (length s.records)) (OfCall (Beyond many_records))
+room_for_record s = unless (nat_le record_limit (length s.records)) (Beyond many_records)
 
 -- ---- contexts and keys that are handed in
 
@@ -161,7 +162,7 @@ opens s f x = do
 abbrev pub keys_up : State → Choice → (node : List ℕ) → (id : ℕ) → KeySet → Result Step Refusal
 keys_up s f node id set = do
   _ ← has_read f.reading
-  x ← wanted (open_context node id s.records) (OfCall ContextNotFound)
+  x ← wanted (open_context node id s.records) ContextNotFound
   _ ← unless (is_some (keys node id s.records)) KeysTwice
   _ ← unless (not (keys_fit x.suite set)) (BadEvent (codes "key"))
   _ ← room_for_record s

@@ -1,21 +1,23 @@
 //! Worked examples, by computation.
 
-ghost use Rattle.std.specs.Prelude.{◌≡◌, ℕ, pos, negsuc, [], ◌∷◌, Some, None, Ok, Err, codes};
+ghost use Rattle.std.specs.Prelude.{◌≡◌, ◌≤◌, ◌<◌, ℕ, pos, negsuc, true, false, List, [], ◌∷◌, length, Some, None, Ok, Err, codes};
 ghost use Rattle.spec_documents.specs.Tree.{Tree, null, whole, words, items, trees};
 ghost use Rattle.spec_documents.specs.Hole as hole;
 ghost use Rattle.spec_messages.specs.Message.{method, headers};
 ghost use Rattle.spec_messages.specs.Fault as block;
 ghost use Rattle.spec_messages.specs.Policy.{body_at};
-ghost use Rattle.spec_records.specs.Records.{Opened, Keyed};
-ghost use Rattle.spec_records.specs.RecordRows.{keys_from, unfit_keys};
-ghost use Rattle.spec_exchange.specs.Outside.{no_fault};
+ghost use Rattle.spec_records.specs.Records.{Record, Opened, Keyed, record_limit, used, open_context, keys};
+ghost use Rattle.spec_records.specs.RecordRows.{context_with, keys_from, unfit_keys};
+ghost use Rattle.spec_exchange.specs.Outside.{no_fault, Journal, Keeper};
 ghost use Rattle.spec_exchange.specs.Rebuilding.{no_block};
-ghost use Rattle.spec_exchange.specs.Refusals.{Journal, Keeper, NotBuilt, ContextNotFound, SeqSpent, Form, Replay, Reconstruction, InClear};
-ghost use Rattle.spec_script.specs.Refusals.{Syntax, OtherNumber, BadEvent, NodeUnknown, NodeExists, WireUnknown, BadMessage, DeepBody, BadPolicy, ContextUsed, KeysTwice, OfCall};
+ghost use Rattle.spec_exchange.specs.Limits.{many_records};
+ghost use Rattle.spec_exchange.specs.ReceivingRefusals.{Form, Replay, Reconstruction, InClear};
+ghost use Rattle.spec_exchange.specs.SendingRefusals as sending;
+ghost use Rattle.spec_script.specs.Refusals.{Syntax, OtherNumber, BadEvent, NodeUnknown, NodeExists, WireUnknown, Beyond, KeysTwice, ContextNotFound, BadMessage, DeepBody, BadPolicy, ContextUsed, NotBuilt, OfSending, OfReceiving, OfOutside};
 ghost use Rattle.spec_script.specs.Events.{AddNode, AddContext, AddKeys, Send, Inject, Deliver, Restart, event_of, line_event};
 ghost use Rattle.spec_script.specs.Steps.{Fine, OnWire, Refuses, step, after};
 ghost use Rattle.spec_script.specs.Answers.{answer_text};
-ghost use Rattle.spec_script.specs.Rows.{named, node_fields, policy_document, context_fields, peer_ipx_field, handed_with, key_digits, keys_fields, request_document, nested, holding, opened, keyed, untold, bad_record};
+ghost use Rattle.spec_script.specs.Rows.{named, node_fields, policy_document, context_fields, peer_ipx_field, handed_with, key_digits, keys_fields, request_document, nested, holding, opened, keyed, lost, untold, bad_record};
 
 /// Each event is an object that names it; the first member that is missing or has not its form is told.
 pub fn event_rows()
@@ -51,9 +53,10 @@ pub fn node_rows()
     ensures unknown { (step (holding []) no_fault (Restart (codes "C"))).answer ≡ Refuses NodeUnknown }
     ensures second { (step (holding []) no_fault (Inject null)).answer ≡ OnWire 2 }
     ensures wire { (step (holding []) no_fault (Deliver (codes "B") (pos 9))).answer ≡ Refuses WireUnknown }
+    ensures node_first { (step (holding []) no_fault (Deliver (codes "C") (pos 9))).answer ≡ Refuses NodeUnknown }
     ensures from_one { (step (holding []) no_fault (Deliver (codes "B") (pos 0))).answer ≡ Refuses WireUnknown }
     ensures below { (step (holding []) no_fault (Deliver (codes "B") (negsuc 0))).answer ≡ Refuses WireUnknown }
-    ensures first { (step (holding []) no_fault (Deliver (codes "B") (pos 1))).answer ≡ Refuses (OfCall (Form (codes "document"))) }
+    ensures first { (step (holding []) no_fault (Deliver (codes "B") (pos 1))).answer ≡ Refuses (OfReceiving (Form (codes "document"))) }
 {}
 
 /// A context is handed in once, and so are its keys; the keeper's faults come before what the records tell.
@@ -61,22 +64,31 @@ pub fn context_rows()
     ensures opened { (step (holding []) no_fault (AddContext (handed_with policy_document))).answer ≡ Fine (codes "context") }
     ensures used { (step (holding opened) no_fault (AddContext (handed_with policy_document))).answer ≡ Refuses ContextUsed }
     ensures policy { (step (holding opened) bad_record (AddContext (handed_with null))).answer ≡ Refuses (BadPolicy 0) }
-    ensures journal { (step (holding opened) bad_record (AddContext (handed_with policy_document))).answer ≡ Refuses (OfCall (Journal 2)) }
+    ensures journal { (step (holding opened) bad_record (AddContext (handed_with policy_document))).answer ≡ Refuses (OfOutside (Journal 2)) }
     ensures keys { step (holding opened) no_fault (AddKeys (codes "A") 161 (keys_from 3)) ≡ record { answer = Fine (codes "keys"); put = Some (Keyed (codes "A") 161 (keys_from 3)); sent = None; sites = (holding []).sites } }
     ensures twice { (step (holding keyed) no_fault (AddKeys (codes "A") 161 (keys_from 3))).answer ≡ Refuses KeysTwice }
     ensures twice_unfit { (step (holding keyed) no_fault (AddKeys (codes "A") 161 unfit_keys)).answer ≡ Refuses KeysTwice }
     ensures unfit { (step (holding opened) no_fault (AddKeys (codes "A") 161 unfit_keys)).answer ≡ Refuses (BadEvent (codes "key")) }
-    ensures none { (step (holding opened) no_fault (AddKeys (codes "B") 161 (keys_from 3))).answer ≡ Refuses (OfCall ContextNotFound) }
-    ensures untold { step (holding opened) untold (AddKeys (codes "A") 161 (keys_from 3)) ≡ record { answer = Refuses (OfCall Keeper); put = Some (Keyed (codes "A") 161 (keys_from 3)); sent = None; sites = (holding []).sites } }
+    ensures none { (step (holding opened) no_fault (AddKeys (codes "B") 161 (keys_from 3))).answer ≡ Refuses ContextNotFound }
+    ensures untold { step (holding opened) untold (AddKeys (codes "A") 161 (keys_from 3)) ≡ record { answer = Refuses (OfOutside Keeper); put = Some (Keyed (codes "A") 161 (keys_from 3)); sent = None; sites = (holding []).sites } }
+{}
+
+/// Where no record more may be held, this is told before the keeper is asked, and after what the records tell.
+pub fn room_rows()
+    ensures context { (records : List Record) → used (codes "A") 161 records ≡ false → record_limit ≤ length records → (step (holding records) lost (AddContext (handed_with policy_document))).answer ≡ Refuses (Beyond many_records) }
+    ensures used { (records : List Record) → used (codes "A") 161 records ≡ true → record_limit ≤ length records → (step (holding records) lost (AddContext (handed_with policy_document))).answer ≡ Refuses ContextUsed }
+    ensures keys { (records : List Record) → open_context (codes "A") 161 records ≡ Some (context_with (codes "B")) → keys (codes "A") 161 records ≡ None → record_limit ≤ length records → (step (holding records) lost (AddKeys (codes "A") 161 (keys_from 3))).answer ≡ Refuses (Beyond many_records) }
+    ensures kept { (records : List Record) → used (codes "A") 161 records ≡ false → length records < record_limit → (step (holding records) lost (AddContext (handed_with policy_document))).answer ≡ Refuses (OfOutside Keeper) }
+    ensures text { answer_text 9 (Refuses (Beyond many_records)) ≡ codes "{\"detail\":\"records\",\"line\":9,\"name\":\"LIMIT\",\"refused\":7}" }
 {}
 
 /// What is sent is a request that answers none.
 pub fn message_rows()
-    ensures response { (step (holding []) no_fault (Send (codes "A") 161 (named [] ((codes "statusLine", null) ∷ [])) None)).answer ≡ Refuses (OfCall NotBuilt) }
+    ensures response { (step (holding []) no_fault (Send (codes "A") 161 (named [] ((codes "statusLine", null) ∷ [])) None)).answer ≡ Refuses NotBuilt }
     ensures message { (step (holding []) no_fault (Send (codes "A") 161 (request_document ((codes "headers", null) ∷ [])) (Some 7))).answer ≡ Refuses (BadMessage headers) }
     ensures deep { (step (holding []) no_fault (Send (codes "A") 161 (request_document ((codes "body", nested 65) ∷ [])) (Some 7))).answer ≡ Refuses DeepBody }
     ensures answers { (step (holding []) no_fault (Send (codes "A") 161 (request_document ((codes "body", nested 64) ∷ [])) (Some 7))).answer ≡ Refuses (BadEvent (codes "answers")) }
-    ensures context { (step (holding []) no_fault (Send (codes "A") 161 (request_document ((codes "body", nested 64) ∷ [])) None)).answer ≡ Refuses (OfCall ContextNotFound) }
+    ensures context { (step (holding []) no_fault (Send (codes "A") 161 (request_document ((codes "body", nested 64) ∷ [])) None)).answer ≡ Refuses (OfSending sending.ContextNotFound) }
 {}
 
 /// The texts of answers.
@@ -84,10 +96,10 @@ pub fn text_rows()
     ensures node { answer_text 1 (Fine (codes "node")) ≡ codes "{\"line\":1,\"ok\":\"node\"}" }
     ensures wire { answer_text 7 (OnWire 2) ≡ codes "{\"line\":7,\"wire\":2}" }
     ensures fly { answer_text 7 (Refuses (BadEvent (codes "do"))) ≡ codes "{\"detail\":\"do\",\"line\":7,\"name\":\"EVENT\",\"refused\":3}" }
-    ensures spent { answer_text 8 (Refuses (OfCall SeqSpent)) ≡ codes "{\"line\":8,\"name\":\"SEQ_SPENT\",\"refused\":12}" }
-    ensures replay { answer_text 9 (Refuses (OfCall (Replay 5))) ≡ codes "{\"detail\":\"5\",\"line\":9,\"name\":\"REPLAY\",\"refused\":25}" }
+    ensures spent { answer_text 8 (Refuses (OfSending sending.SeqSpent)) ≡ codes "{\"line\":8,\"name\":\"SEQ_SPENT\",\"refused\":12}" }
+    ensures replay { answer_text 9 (Refuses (OfReceiving (Replay 5))) ≡ codes "{\"detail\":\"5\",\"line\":9,\"name\":\"REPLAY\",\"refused\":25}" }
     ensures message { answer_text 10 (Refuses (BadMessage method)) ≡ codes "{\"detail\":\"method\",\"line\":10,\"name\":\"MESSAGE\",\"refused\":13}" }
-    ensures overlap { answer_text 11 (Refuses (OfCall (Reconstruction (no_block (block.overlap 2))))) ≡ codes "{\"detail\":\"OVERLAP 2\",\"line\":11,\"name\":\"RECONSTRUCTION\",\"refused\":26}" }
-    ensures bad_hole { answer_text 12 (Refuses (OfCall (Reconstruction (no_block (block.bad_holes (hole.bad_hole (record { pointer = codes "requestLine" ∷ codes "path" ∷ []; part = Some 3 }))))))) ≡ codes "{\"detail\":\"BAD_HOLE /requestLine/path#3\",\"line\":12,\"name\":\"RECONSTRUCTION\",\"refused\":26}" }
-    ensures clear { answer_text 13 (Refuses (OfCall (InClear (body_at (codes "supiOrSuci" ∷ []))))) ≡ codes "{\"detail\":\"body:/supiOrSuci\",\"line\":13,\"name\":\"POLICY\",\"refused\":27}" }
+    ensures overlap { answer_text 11 (Refuses (OfReceiving (Reconstruction (no_block (block.overlap 2))))) ≡ codes "{\"detail\":\"OVERLAP 2\",\"line\":11,\"name\":\"RECONSTRUCTION\",\"refused\":26}" }
+    ensures bad_hole { answer_text 12 (Refuses (OfReceiving (Reconstruction (no_block (block.bad_holes (hole.bad_hole (record { pointer = codes "requestLine" ∷ codes "path" ∷ []; part = Some 3 }))))))) ≡ codes "{\"detail\":\"BAD_HOLE /requestLine/path#3\",\"line\":12,\"name\":\"RECONSTRUCTION\",\"refused\":26}" }
+    ensures clear { answer_text 13 (Refuses (OfReceiving (InClear (body_at (codes "supiOrSuci" ∷ []))))) ≡ codes "{\"detail\":\"body:/supiOrSuci\",\"line\":13,\"name\":\"POLICY\",\"refused\":27}" }
 {}

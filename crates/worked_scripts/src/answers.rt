@@ -5,8 +5,9 @@ use json_ptr::{Pointer, read_pointer};
 use jwe_flat::CipherWhy;
 use n32_values::{Doc, Hex64, Text, read_doc};
 use policy_tables::Address;
-use receiving_sepp::RebuildWhy;
+use receiving_sepp::{RebuildWhy, Refused};
 use script_answers::{Refusal, delivered_text, done_text, refusal_text, sealed_text, wire_text};
+use sending_sepp::SendFault;
 use std::alloc::Global;
 use std::process::Abort;
 use std::test::Fail;
@@ -74,7 +75,7 @@ fn check(rt: &impl Abort, alloc: Global, refusal: Refusal, wanted: &str) -> Resu
 }
 
 fn check_block(rt: &impl Abort, alloc: Global, why: BlockWhy, wanted: &str) -> Result<(), Fail> {
-    let refusal = Refusal::Reconstruction(RebuildWhy::Block(why));
+    let refusal = Refusal::Receiving(Refused::Reconstruction(RebuildWhy::Block(why)));
     check(rt, alloc, refusal, wanted)
 }
 
@@ -90,7 +91,7 @@ fn refusals_are_told_by_number_name_and_detail(rt: HostRuntime) -> Result<(), Fa
     check(
         &rt,
         alloc,
-        Refusal::SeqSpent,
+        Refusal::Sending(SendFault::SeqSpent),
         "{\"line\":9,\"name\":\"SEQ_SPENT\",\"refused\":12}",
     )?;
     check(
@@ -120,27 +121,27 @@ fn refusals_are_told_by_number_name_and_detail(rt: HostRuntime) -> Result<(), Fa
     check(
         &rt,
         alloc,
-        Refusal::Cipher(CipherWhy::Enc),
+        Refusal::Receiving(Refused::Cipher(CipherWhy::Enc)),
         "{\"detail\":\"enc\",\"line\":9,\"name\":\"CIPHER\",\"refused\":23}",
     )?;
     check(
         &rt,
         alloc,
-        Refusal::Replay(5),
+        Refusal::Receiving(Refused::Replay(5)),
         "{\"detail\":\"5\",\"line\":9,\"name\":\"REPLAY\",\"refused\":25}",
     )?;
     let member = Text::from_text(alloc, "aad")?;
     check(
         &rt,
         alloc,
-        Refusal::Form(member),
+        Refusal::Receiving(Refused::Form(member)),
         "{\"detail\":\"aad\",\"line\":9,\"name\":\"FORM\",\"refused\":20}",
     )?;
     let address = Address::Body(pointer(alloc, "/supiOrSuci")?);
     check(
         &rt,
         alloc,
-        Refusal::Policy(address),
+        Refusal::Receiving(Refused::Policy(address)),
         "{\"detail\":\"body:/supiOrSuci\",\"line\":9,\"name\":\"POLICY\",\"refused\":27}",
     )
 }
@@ -180,13 +181,13 @@ fn why_a_message_is_not_rebuilt_is_told(rt: HostRuntime) -> Result<(), Fail> {
     check(
         &rt,
         alloc,
-        Refusal::Reconstruction(RebuildWhy::NotText(0)),
+        Refusal::Receiving(Refused::Reconstruction(RebuildWhy::NotText(0))),
         "{\"detail\":\"NOT_TEXT 0\",\"line\":9,\"name\":\"RECONSTRUCTION\",\"refused\":26}",
     )?;
     check(
         &rt,
         alloc,
-        Refusal::Reconstruction(RebuildWhy::Values),
+        Refusal::Receiving(Refused::Reconstruction(RebuildWhy::Values)),
         "{\"detail\":\"VALUES\",\"line\":9,\"name\":\"RECONSTRUCTION\",\"refused\":26}",
     )
 }

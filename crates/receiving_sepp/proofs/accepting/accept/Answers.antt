@@ -18,12 +18,12 @@ returns-in_err-checked-clause-accepts g c =
 pub returns-in_err-checked-clause-failed : goal.returns-in_err-checked-clause-failed
 returns-in_err-checked-clause-failed g c = λ e.
     let p = err_from_is_err_and c.from_residual-in_err-checked.result c.from_residual-in_err-checked.ensures.1 in
-    absurd (other_than_keeper c.refresh.new.self.records c.args.node.now c.args.document.now c.in_err-checked.field-0.0 c.in_err-checked.ensures.checks (cc (p.1, p.2, e)))
+    absurd (other_than_keeper c.in_err-checked.field-0.0 (cc (p.1, p.2, e)))
 
 pub returns-in_err-checked-clause-last : goal.returns-in_err-checked-clause-last
 returns-in_err-checked-clause-last g c = λ e f.
     let p = err_from_is_err_and c.from_residual-in_err-checked.result c.from_residual-in_err-checked.ensures.1 in
-    absurd (other_than_keeper c.refresh.new.self.records c.args.node.now c.args.document.now c.in_err-checked.field-0.0 c.in_err-checked.ensures.checks (cc (p.1, p.2, e)))
+    absurd (other_than_keeper c.in_err-checked.field-0.0 (cc (p.1, p.2, e)))
 
 pub returns-clause-accepts : goal.returns-clause-accepts
 returns-clause-accepts g c =

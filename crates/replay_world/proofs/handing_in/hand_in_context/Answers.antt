@@ -38,6 +38,6 @@ returns-in-Ok-refresh-clause-comes g c =
 pub returns-in-Err-refresh-clause-comes : goal.returns-in-Err-refresh-clause-comes
 returns-in-Err-refresh-clause-comes g c =
     let known : is_some (spec.plmn_at (sites_view c.args.world.now.sites) c.args.handed.node) ≡ true = cc in
-    comes_unread (λ s f. spec.step s f (AddContext (handed_view c.args.handed))) (opens_rest (context_view c.in-Ok.context)) (g.K.Keeper.held c.args.keeper.now) (g.K.Keeper.held c.refresh.new.keeper) c.args.world.now _ c.args.number c.in-Err-refresh.fault c.unread.result
+    rw c.unread.ensures (comes_unread (λ s f. spec.step s f (AddContext (handed_view c.args.handed))) (opens_rest (context_view c.in-Ok.context)) (g.K.Keeper.held c.args.keeper.now) (g.K.Keeper.held c.refresh.new.keeper) c.args.world.now _ c.args.number c.in-Err-refresh.fault
     (λ records f. opens_context (state_of c.args.world.now records) f (handed_view c.args.handed) (context_view c.in-Ok.context) known c.in-Ok.ensures.gives)
-    (λ e. let read = (c.refresh.ensures.idle e).0 in cc (read, c.in-Err-refresh.is)) c.in-Err-refresh.ensures.stale c.in-Err-refresh.ensures.journal c.refresh.ensures.same refl refl c.unread.ensures
+    (λ e. let read = (c.refresh.ensures.idle e).0 in cc (read, c.in-Err-refresh.is)) c.in-Err-refresh.ensures.stale c.in-Err-refresh.ensures.journal c.refresh.ensures.same refl refl)

@@ -28,6 +28,6 @@ returns-in-Ok-clause-comes g c =
 pub returns-in-Err-clause-comes : goal.returns-in-Err-clause-comes
 returns-in-Err-clause-comes g c =
     let known : is_some (spec.plmn_at (sites_view c.args.world.now.sites) c.args.node) ≡ true = cc in
-    comes_unread (λ s f. spec.step s f (AddKeys c.args.node c.args.id.value (key_set_view c.args.keys))) (keys_rest c.args.node c.args.id.value (key_set_view c.args.keys)) (g.K.Keeper.held c.args.keeper.now) (g.K.Keeper.held c.refresh.new.keeper) c.args.world.now _ c.args.number c.in-Err.fault c.unread.result
+    rw c.unread.ensures (comes_unread (λ s f. spec.step s f (AddKeys c.args.node c.args.id.value (key_set_view c.args.keys))) (keys_rest c.args.node c.args.id.value (key_set_view c.args.keys)) (g.K.Keeper.held c.args.keeper.now) (g.K.Keeper.held c.refresh.new.keeper) c.args.world.now _ c.args.number c.in-Err.fault
     (λ records f. takes_keys (state_of c.args.world.now records) f c.args.node c.args.id.value (key_set_view c.args.keys) known)
-    (λ e. let read = (c.refresh.ensures.idle e).0 in cc (read, c.in-Err.is)) c.in-Err.ensures.stale c.in-Err.ensures.journal c.refresh.ensures.same refl refl c.unread.ensures
+    (λ e. let read = (c.refresh.ensures.idle e).0 in cc (read, c.in-Err.is)) c.in-Err.ensures.stale c.in-Err.ensures.journal c.refresh.ensures.same refl refl)

@@ -10,7 +10,7 @@ returns-in-Ok-clause-comes g c =
 
 pub returns-in-Err-clause-comes : goal.returns-in-Err-clause-comes
 returns-in-Err-clause-comes g c =
-    comes_unrecorded c.args.name.now (record_view c.args.item) (g.K.Keeper.held c.args.keeper.now) (g.K.Keeper.held c.add.new.keeper) c.args.world.now _ c.args.number c.in-Err.fault c.unrecorded.result
+    rw c.unrecorded.ensures (comes_unrecorded c.args.name.now (record_view c.args.item) (g.K.Keeper.held c.args.keeper.now) (g.K.Keeper.held c.add.new.keeper) c.args.world.now _ c.args.number c.in-Err.fault
     c.requires.fresh c.requires.ready.consistent
     (record {
       limit = λ is. c.in-Err.ensures.limit (rw is refl);
@@ -20,4 +20,4 @@ returns-in-Err-clause-comes g c =
       reads = λ is. c.in-Err.ensures.perhaps_read (rw is refl);
       same = λ either. c.in-Err.ensures.as_it_was (⊎_elim (λ is. inl (rw is refl)) (λ is. inr (rw is refl)) either);
     })
-    refl refl c.unrecorded.ensures
+    refl refl)

@@ -41,5 +41,5 @@ pub returns-in-Err-clause-comes : goal.returns-in-Err-clause-comes
 returns-in-Err-clause-comes g c =
     let known : is_some (spec.plmn_at (sites_view c.args.world.now.sites) c.args.node.now) ≡ true = cc in
     let found : spec.wire_at c.args.world.now.wire c.args.wire.now ≡ Some c.in-Some.document.now = sym c.in-Some.ensures in
-    comes_undelivered (λ s f. spec.step s f (Deliver c.args.node.now c.args.wire.now)) (g.K.Keeper.held c.args.keeper.now) (g.K.Keeper.held c.accept.new.keeper) c.args.world.now _ c.args.number c.args.node.now c.in-Some.document.now c.in-Err.refused c.undelivered.result
-    c.in-Err.ensures.accepts (λ records f. delivers_document (state_of c.args.world.now records) f c.args.node.now c.args.wire.now c.in-Some.document.now known found) refl refl c.undelivered.ensures
+    rw c.undelivered.ensures (comes_undelivered (λ s f. spec.step s f (Deliver c.args.node.now c.args.wire.now)) (g.K.Keeper.held c.args.keeper.now) (g.K.Keeper.held c.accept.new.keeper) c.args.world.now _ c.args.number c.args.node.now c.in-Some.document.now c.in-Err.fault
+    c.in-Err.ensures.accepts (λ records f. delivers_document (state_of c.args.world.now records) f c.args.node.now c.args.wire.now c.in-Some.document.now known found) refl refl)

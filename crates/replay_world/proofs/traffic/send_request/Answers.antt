@@ -29,5 +29,5 @@ returns-in_ok-put_sealed-in-Ok-clause-ready g c = record {
 
 pub returns-in-Err-clause-comes : goal.returns-in-Err-clause-comes
 returns-in-Err-clause-comes g c =
-    comes_unsealed (λ s f. spec.sends_sealed s (sends f s.records c.args.node.now c.args.id.value Asks (message_view c.args.request.now))) (g.K.Keeper.held c.args.keeper.now) (g.K.Keeper.held c.protect.new.keeper) c.args.world.now _ c.args.number c.args.node.now c.args.id.value (message_view c.args.request.now) c.in-Err.fault c.unsent.result
-    c.in-Err.ensures.protects (λ records f. refl) refl refl c.unsent.ensures
+    rw c.unsent.ensures (comes_unsealed (λ s f. spec.sends_sealed s (sends f s.records c.args.node.now c.args.id.value Asks (message_view c.args.request.now))) (g.K.Keeper.held c.args.keeper.now) (g.K.Keeper.held c.protect.new.keeper) c.args.world.now _ c.args.number c.args.node.now c.args.id.value (message_view c.args.request.now) c.in-Err.fault
+    c.in-Err.ensures.protects (λ records f. refl) refl refl)

@@ -6,37 +6,39 @@ use Rattle.sending_sepp.specs.Outcome.{sealed_view}
 use Rattle.sending_sepp.proofs.Outcomes.{unread, unchecked, sent, passed, no_keeper}
 use Rattle.sending_sepp.proofs.sending.protect.Goals as goal
 
-pub returns-in-Err-clause-protects : goal.returns-in-Err-clause-protects
-returns-in-Err-clause-protects g c =
-    let before : c.args.store.now.fresh ≡ false = false_from_ne_true c.args.store.now.fresh (λ f. let idle = (c.in-Err.ensures.idle f).0 in cc) in
-    rw c.unread.ensures (unread (g.K.Keeper.held c.args.keeper.now) (g.K.Keeper.held c.refresh.new.keeper) c.args.store.now c.refresh.new.self c.args.node.now c.args.id.value (message_view c.args.request.now) c.in-Err.fault
-    c.in-Err.ensures.same before c.in-Err.ensures.stale c.in-Err.ensures.journal)
+pub returns-in_err-refresh-clause-protects : goal.returns-in_err-refresh-clause-protects
+returns-in_err-refresh-clause-protects g c =
+    let p = err_from_is_err_and c.from_residual.result c.from_residual.ensures.1 in
+    let e = c.in_err-refresh.ensures in
+    let before : c.args.store.now.fresh ≡ false = false_from_ne_true c.args.store.now.fresh (λ f. let idle = (e.idle f).0 in cc) in
+    rw (p.1, p.2) (unread (g.K.Keeper.held c.args.keeper.now) (g.K.Keeper.held c.refresh.new.keeper) c.args.store.now c.refresh.new.self c.args.node.now c.args.id.value (message_view c.args.request.now) c.in_err-refresh.field-0.0
+    e.same before e.stale e.journal)
 
 pub returns-in_err-checked-clause-protects : goal.returns-in_err-checked-clause-protects
 returns-in_err-checked-clause-protects g c =
-    let p = err_from_is_err_and c.from_residual.result c.from_residual.ensures.1 in
-    let e = c.in_default.ensures in
+    let p = err_from_is_err_and c.from_residual-in_err-checked.result c.from_residual-in_err-checked.ensures.1 in
+    let e = c.in_ok-refresh.ensures in
     rw (p.1, p.2) (unchecked (g.K.Keeper.held c.args.keeper.now) (g.K.Keeper.held c.refresh.new.keeper) c.args.store.now c.refresh.new.self c.args.node.now c.args.id.value (message_view c.args.request.now) c.in_err-checked.field-0.0
-    (record { told = e.same; holds = e.consistent e.fresh; few = e.few; fresh = e.fresh; same = λ f. (e.idle f).1 }) c.in_err-checked.ensures.kind c.in_err-checked.ensures.checks)
+    (record { told = e.same; holds = e.consistent e.fresh; few = e.few; fresh = e.fresh; same = λ f. (e.idle f).1 }) c.in_err-checked.ensures.checks)
 
 pub returns-clause-protects : goal.returns-clause-protects
 returns-clause-protects g c =
-    let e = c.in_default.ensures in
+    let e = c.in_ok-refresh.ensures in
     sent (g.K.Keeper.held c.args.keeper.now) (g.K.Keeper.held c.refresh.new.keeper) (g.K.Keeper.held c.record_sent.new.keeper) c.args.store.now c.refresh.new.self c.record_sent.new.store c.args.node.now c.args.id.value (message_view c.args.request.now)
     (sealed_view c.args.node.now c.args.id.value c.in_ok-checked.checked) c.record_sent.result
     (record { told = e.same; holds = e.consistent e.fresh; few = e.few; fresh = e.fresh; same = λ f. (e.idle f).1 }) c.in_ok-checked.ensures.checks c.record_sent.ensures.records
 
 pub returns-in_err-checked-clause-failed : goal.returns-in_err-checked-clause-failed
-returns-in_err-checked-clause-failed g c =
-    let p = err_from_is_err_and c.from_residual.result c.from_residual.ensures.1 in
-    λ is. absurd (no_keeper c.in_err-checked.field-0.0 c.in_err-checked.ensures.kind (let same = p.1 in let from = p.2 in cc))
+returns-in_err-checked-clause-failed g c = λ is.
+    let p = err_from_is_err_and c.from_residual-in_err-checked.result c.from_residual-in_err-checked.ensures.1 in
+    absurd (no_keeper c.in_err-checked.field-0.0 (cc (p.1, p.2, is)))
 
 pub returns-in_err-checked-clause-last : goal.returns-in_err-checked-clause-last
-returns-in_err-checked-clause-last g c =
-    let p = err_from_is_err_and c.from_residual.result c.from_residual.ensures.1 in
-    λ is f. absurd (no_keeper c.in_err-checked.field-0.0 c.in_err-checked.ensures.kind (let same = p.1 in let from = p.2 in cc))
+returns-in_err-checked-clause-last g c = λ is f.
+    let p = err_from_is_err_and c.from_residual-in_err-checked.result c.from_residual-in_err-checked.ensures.1 in
+    absurd (no_keeper c.in_err-checked.field-0.0 (cc (p.1, p.2, is)))
 
 pub returns-clause-last : goal.returns-clause-last
 returns-clause-last g c = λ is f.
-    let same = (c.in_default.ensures.idle f).1 in
+    let same = (c.in_ok-refresh.ensures.idle f).1 in
     rw (← same) (passed c.refresh.new.self.records c.args.node.now c.args.id.value (message_view c.args.request.now) (sealed_view c.args.node.now c.args.id.value c.in_ok-checked.checked) (c.record_sent.ensures.room is) c.in_ok-checked.ensures.checks)

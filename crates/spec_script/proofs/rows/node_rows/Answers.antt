@@ -37,3 +37,7 @@ returns-clause-below c = refl
 pub returns-clause-first : goal.returns-clause-first
 unfolding chain.◌>>=◌
 returns-clause-first c = refl
+
+pub returns-clause-node_first : goal.returns-clause-node_first
+unfolding chain.◌>>=◌
+returns-clause-node_first c = refl
