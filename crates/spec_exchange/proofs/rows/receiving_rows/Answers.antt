@@ -40,7 +40,7 @@ rebuilt_to block plain vs holed content listed read fill =
     ∙ (bind_at _ _ holed (ap (or_refused (λ why. Reconstruction (no_block why))) read)
     ∙ bind_at _ _ content (ap (or_refused (λ why. Reconstruction (no_fill why))) fill))
 
-imsi : List Tree
+abbrev imsi : List Tree
 imsi = words (codes "imsi-001010000000001") ∷ []
 
 hidden_read : read_block hidden_block 1 ≡ Ok (cleared slices_policy (Some 0) slices_request)
