@@ -75,9 +75,9 @@ pub fn context_rows()
 
 /// Where no record more may be held, this is told before the keeper is asked, and after what the records tell.
 pub fn room_rows()
-    ensures context { (records : List Record) → used (codes "A") 161 records ≡ false → record_limit ≤ length records → (step (holding records) lost (AddContext (handed_with policy_document))).answer ≡ Refuses (Beyond many_records) }
-    ensures used { (records : List Record) → used (codes "A") 161 records ≡ true → record_limit ≤ length records → (step (holding records) lost (AddContext (handed_with policy_document))).answer ≡ Refuses ContextUsed }
-    ensures keys { (records : List Record) → open_context (codes "A") 161 records ≡ Some (context_with (codes "B")) → keys (codes "A") 161 records ≡ None → record_limit ≤ length records → (step (holding records) lost (AddKeys (codes "A") 161 (keys_from 3))).answer ≡ Refuses (Beyond many_records) }
+    ensures new_context { (records : List Record) → used (codes "A") 161 records ≡ false → record_limit ≤ length records → (step (holding records) lost (AddContext (handed_with policy_document))).answer ≡ Refuses (Beyond many_records) }
+    ensures used_id { (records : List Record) → used (codes "A") 161 records ≡ true → record_limit ≤ length records → (step (holding records) lost (AddContext (handed_with policy_document))).answer ≡ Refuses ContextUsed }
+    ensures new_keys { (records : List Record) → open_context (codes "A") 161 records ≡ Some (context_with (codes "B")) → keys (codes "A") 161 records ≡ None → record_limit ≤ length records → (step (holding records) lost (AddKeys (codes "A") 161 (keys_from 3))).answer ≡ Refuses (Beyond many_records) }
     ensures kept { (records : List Record) → used (codes "A") 161 records ≡ false → length records < record_limit → (step (holding records) lost (AddContext (handed_with policy_document))).answer ≡ Refuses (OfOutside Keeper) }
     ensures text { answer_text 9 (Refuses (Beyond many_records)) ≡ codes "{\"detail\":\"records\",\"line\":9,\"name\":\"LIMIT\",\"refused\":7}" }
 {}

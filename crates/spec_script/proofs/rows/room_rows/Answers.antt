@@ -6,17 +6,17 @@ use Rattle.spec_records.specs.Records.{record_limit}
 use Rattle.spec_exchange.specs.Chain as chain
 use Rattle.spec_script.proofs.rows.room_rows.Goals as goal
 
-pub returns-clause-context : goal.returns-clause-context
+pub returns-clause-new_context : goal.returns-clause-new_context
 unfolding chain.◌>>=◌
-returns-clause-context c records fresh le = rw (fresh, le-leb record_limit (length records) le) refl
+returns-clause-new_context c records fresh le = rw (fresh, le-leb record_limit (length records) le) refl
 
-pub returns-clause-used : goal.returns-clause-used
+pub returns-clause-used_id : goal.returns-clause-used_id
 unfolding chain.◌>>=◌
-returns-clause-used c records before le = rw before refl
+returns-clause-used_id c records before le = rw before refl
 
-pub returns-clause-keys : goal.returns-clause-keys
+pub returns-clause-new_keys : goal.returns-clause-new_keys
 unfolding chain.◌>>=◌
-returns-clause-keys c records is_open none le = rw (is_open, none, le-leb record_limit (length records) le) refl
+returns-clause-new_keys c records is_open none le = rw (is_open, none, le-leb record_limit (length records) le) refl
 
 pub returns-clause-kept : goal.returns-clause-kept
 unfolding chain.◌>>=◌
