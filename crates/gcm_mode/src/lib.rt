@@ -6,7 +6,7 @@
 
 ghost use Rattle.std.specs.Prelude.{◌≡◌, ◌↔◌, ◌++◌, IsTrue};
 ghost use Rattle.std.specs.Bool.{OnTrue, OnFalse};
-ghost use Rattle.gcm_mode.specs.Gcm.{Opens, SealedOpens, Seals, lengths, tag_of};
+ghost use Rattle.spec_sealing.specs.Gcm.{Opens, SealedOpens, Seals, lengths, tag_of};
 
 mod field;
 mod ghash;

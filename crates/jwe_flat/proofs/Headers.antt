@@ -5,11 +5,11 @@ use Rattle.base64.specs.GeneralPurpose.{IsBytes}
 use Rattle.json.specs.Print.{escape_byte}
 use Rattle.json.proofs.Printed.Utf8.{are_ascii, IsUtf8-are_ascii}
 use Rattle.spec_documents.specs.Tree.{Tree, Members, members}
-use Rattle.n32_values.specs.Base64url.{base64url}
-use Rattle.n32_values.specs.Document.{IsDocument}
-use Rattle.n32_values.specs.Reading.{ReadsTo, HasOtherNumber}
-use Rattle.n32_values.proofs.RoundTrip.{reads_back}
-use Rattle.gcm_mode.specs.Gcm as gcm
+use Rattle.spec_documents.specs.Base64url.{base64url}
+use Rattle.spec_documents.specs.Document.{IsDocument}
+use Rattle.spec_documents.specs.Reading.{ReadsTo, HasOtherNumber}
+use Rattle.spec_documents.proofs.RoundTrip.{reads_back}
+use Rattle.spec_sealing.specs.Gcm as gcm
 use Rattle.jwe_flat.specs.Keys.{suite_of, content_cipher}
 use Rattle.jwe_flat.specs.Header.{ReadsHeader, header_members, compact_header, header_text, header_fault, object_in}
 use Rattle.jwe_flat.specs.Sealing.{IsAllowed, SealedJweOpens, additional_data}

@@ -3,7 +3,7 @@ use Rattle.std.proofs.Common.{◌≡◌, ◌≢◌, ℕ, List, length, codes, No
 use Rattle.base64.specs.GeneralPurpose.{IsBytes}
 use Rattle.spec_documents.specs.Tree.{Members}
 use Rattle.spec_messages.specs.Message.{text_at, any_text}
-use Rattle.n32_values.specs.Base64url.{base64url}
+use Rattle.spec_documents.specs.Base64url.{base64url}
 use Rattle.jwe_flat.specs.Header.{ReadsHeader}
 use Rattle.jwe_flat.specs.Form.{HasBytes, HasCount, HasHeader}
 

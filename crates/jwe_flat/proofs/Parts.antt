@@ -1,9 +1,9 @@
 -- What the calls of GCM say, over the parts of a JWE.
 use Rattle.std.proofs.Common.{◌≡◌, ℕ, List, ◌++◌, Bool, false, ◌↔◌, None, Some, Option, refl}
 use Rattle.std.specs.Prelude.{IsTrue}
-use Rattle.gcm_mode.specs.Gcm as gcm
+use Rattle.spec_sealing.specs.Gcm as gcm
 use Rattle.spec_documents.specs.Tree.{Members}
-use Rattle.n32_values.specs.Base64url.{base64url}
+use Rattle.spec_documents.specs.Base64url.{base64url}
 use Rattle.jwe_flat.specs.Keys.{suite_of, content_cipher}
 use Rattle.jwe_flat.specs.Header.{ReadsHeader, FaultIs, header_text, header_fault}
 use Rattle.jwe_flat.specs.Sealing.{JweOf, Opens, HasOtherTag, before_aad}

@@ -4,7 +4,7 @@ use Rattle.std.specs.List.{AllByRecursion}
 use Rattle.base64.specs.GeneralPurpose.{IsBytes}
 use Rattle.spec_documents.specs.Tree.{Tree, words, members, Members, get_member, object}
 use Rattle.spec_messages.specs.Message.{text_at, any_text}
-use Rattle.n32_values.specs.Base64url.{base64url}
+use Rattle.spec_documents.specs.Base64url.{base64url}
 use Rattle.jwe_flat.specs.Header.{ReadsHeader, has_text, members_if, object_in}
 use Rattle.jwe_flat.specs.Sealing.{JweOf}
 use Rattle.jwe_flat.specs.declared.jwe.FlatJwe.{FlatJwe}

@@ -1,7 +1,7 @@
 -- Sealing and opening a JWE with `dir` and AES GCM (RFC 7516, sections 5.1 and 5.2; RFC 7518, sections 4.5 and 5.3).
 use Rattle.std.specs.Prelude.{◌≡◌, ◌≢◌, ⊤, ℕ, List, [], ◌∷◌, ◌++◌, Some, None}
-use Rattle.gcm_mode.specs.Gcm as gcm
-use Rattle.n32_values.specs.Base64url.{base64url}
+use Rattle.spec_sealing.specs.Gcm as gcm
+use Rattle.spec_documents.specs.Base64url.{base64url}
 use Rattle.jwe_flat.specs.Keys.{suite_of, content_cipher}
 use Rattle.jwe_flat.specs.Header.{header_text, FaultIs}
 use Rattle.jwe_flat.specs.declared.jwe.FlatJwe.{FlatJwe}

@@ -2,7 +2,7 @@
 
 ghost use Rattle.std.specs.Prelude.{◌≡◌, Err, IfOk};
 ghost use Rattle.spec_documents.specs.Tree.{Members, members};
-ghost use Rattle.n32_values.specs.Reading.{ReadsTo};
+ghost use Rattle.spec_documents.specs.Reading.{ReadsTo};
 ghost use Rattle.n32_values.specs.View.{tree_of};
 ghost use Rattle.jwe_flat.specs.Header as spec;
 

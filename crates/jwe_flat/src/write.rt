@@ -3,7 +3,7 @@
 ghost use Rattle.std.specs.Prelude.{◌≡◌, IfOk};
 ghost use Rattle.base64.specs.GeneralPurpose.{IsBytes};
 ghost use Rattle.spec_documents.specs.Tree.{words};
-ghost use Rattle.n32_values.specs.Base64url.{base64url};
+ghost use Rattle.spec_documents.specs.Base64url.{base64url};
 ghost use Rattle.n32_values.specs.View.{tree_of};
 ghost use Rattle.jwe_flat.specs.Form.{HasParts, HasTexts, ReadsJwe, jwe_tree};
 

@@ -6,7 +6,7 @@ use Rattle.base64.specs.GeneralPurpose.{IsBytes, encode_of, decode_of, engine_sy
 use Rattle.base64.specs.declared.engine.general_purpose.TheConstants.{NO_PAD}
 use Rattle.base64.specs.declared.engine.general_purpose.GeneralPurpose.{GeneralPurpose}
 use Rattle.base64.proofs.EngineFacts.{decode_of-encode_of}
-use Rattle.n32_values.specs.Base64url.{base64url, url_symbols}
+use Rattle.spec_documents.specs.Base64url.{base64url, url_symbols}
 
 pub encode_of-base64url : (e : GeneralPurpose) (bytes : List ℕ) → engine_symbols e ≡ url_symbols → engine_config e ≡ NO_PAD → encode_of e bytes ≡ base64url bytes
 encode_of-base64url e bytes symbols padding = rw (symbols, padding) (append-nil (encode_symbols url_symbols bytes))

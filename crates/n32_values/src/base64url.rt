@@ -1,7 +1,7 @@
 ghost use Rattle.std.specs.Prelude.{◌≡◌, ◌≢◌, IfOk, List, ℕ, Err, false};
 ghost use Rattle.base64.specs.Alphabet.{alphabet_symbols};
 ghost use Rattle.base64.specs.GeneralPurpose.{IsBytes, IsStrict, encode_of};
-ghost use Rattle.n32_values.specs.Base64url.{base64url};
+ghost use Rattle.spec_documents.specs.Base64url.{base64url};
 
 use crate::bytes::Bytes;
 use crate::memory::NoMemory;

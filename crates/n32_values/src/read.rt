@@ -6,7 +6,7 @@ ghost use Rattle.serde_json.specs.Errors.{IsMemory};
 ghost use Rattle.serde_json.specs.Find.{as_integer};
 ghost use Rattle.spec_documents.specs.Tree.{trees};
 ghost use Rattle.n32_values.specs.View.{tree_of};
-ghost use Rattle.n32_values.specs.Reading.{tree_from, trees_from, members_from, HasReading, ReadsTo, HasOtherNumber};
+ghost use Rattle.spec_documents.specs.Reading.{tree_from, trees_from, members_from, HasReading, ReadsTo, HasOtherNumber};
 
 use crate::doc::Doc;
 use crate::memory::NoMemory;

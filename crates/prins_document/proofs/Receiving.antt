@@ -9,7 +9,7 @@ use Rattle.spec_messages.specs.Message.{wanted}
 use Rattle.spec_messages.specs.Block as blocks
 use Rattle.spec_messages.specs.Block.{is_object, members_of, is_meta}
 use Rattle.spec_messages.specs.Fault.{is_meta_node, meta_of, or_null, when}
-use Rattle.n32_values.specs.Base64url.{base64url}
+use Rattle.spec_documents.specs.Base64url.{base64url}
 use Rattle.block_forms.specs.Metadata.{meta_in, meta_view}
 use Rattle.jwe_flat.specs.Header.{object_in}
 use Rattle.jwe_flat.specs.Form as jwes

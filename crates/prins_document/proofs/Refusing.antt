@@ -4,8 +4,8 @@ use Rattle.base64.specs.GeneralPurpose.{IsBytes}
 use Rattle.spec_documents.specs.Tree.{Tree, Members, members}
 use Rattle.spec_messages.specs.Message.{text_at, any_text}
 use Rattle.spec_messages.specs.Block.{members_of}
-use Rattle.n32_values.specs.Base64url.{base64url}
-use Rattle.n32_values.specs.Reading.{ReadsTo, HasReading, HasOtherNumber}
+use Rattle.spec_documents.specs.Base64url.{base64url}
+use Rattle.spec_documents.specs.Reading.{ReadsTo, HasReading, HasOtherNumber}
 use Rattle.block_forms.specs.Metadata.{meta_in}
 use Rattle.jwe_flat.specs.Form as jwes
 use Rattle.jwe_flat.specs.Form.{ReadsJwe, ReadIsRight}

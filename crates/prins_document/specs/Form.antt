@@ -5,8 +5,8 @@ use Rattle.spec_documents.specs.Tree.{Tree, null, truth, whole, words, items, me
 use Rattle.spec_messages.specs.Message.{Kind, of_request, of_response, text_at, any_text}
 use Rattle.spec_messages.specs.Block as blocks
 use Rattle.spec_messages.specs.Block.{members_of}
-use Rattle.n32_values.specs.Base64url.{base64url}
-use Rattle.n32_values.specs.Reading.{ReadsTo}
+use Rattle.spec_documents.specs.Base64url.{base64url}
+use Rattle.spec_documents.specs.Reading.{ReadsTo}
 use Rattle.http_message.specs.Reading.{kind_view}
 use Rattle.block_forms.specs.Metadata.{meta_in, meta_view}
 use Rattle.jwe_flat.specs.Form as jwes

@@ -1,7 +1,7 @@
 // The block, which is the additional data of the JWE.
 ghost use Rattle.std.specs.Prelude.{◌≡◌, IfOk, IfErr, Some, None, codes};
 ghost use Rattle.spec_documents.specs.Tree.{Tree};
-ghost use Rattle.n32_values.specs.Reading.{ReadsTo};
+ghost use Rattle.spec_documents.specs.Reading.{ReadsTo};
 ghost use Rattle.block_forms.specs.Metadata.{meta_in, meta_view};
 ghost use Rattle.http_message.specs.Reading.{kind_view};
 ghost use Rattle.prins_document.specs.Form as spec;

@@ -1,7 +1,7 @@
 -- A step over the records that are held.
 use Rattle.std.proofs.Common.{◌≡◌, ℕ, List, [], ◌∷◌, ◌++◌, Option, Some, None, IfOk, Result, Ok, Err, refl, sym, subst, ◌∙◌}
 use Rattle.spec_documents.specs.Tree.{Tree}
-use Rattle.n32_values.specs.Reading.{ReadsTo}
+use Rattle.spec_documents.specs.Reading.{ReadsTo}
 use Rattle.n32_values.specs.declared.memory.NoMemory.{NoMemory}
 use Rattle.spec_records.specs.Records.{Record}
 use Rattle.context_records.specs.Reading.{ReadsRecord, written}

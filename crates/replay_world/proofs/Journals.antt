@@ -12,7 +12,7 @@ use Rattle.spec_exchange.specs.FirstFailed.{Delivery, first_failed_of, first_fai
 use Rattle.spec_exchange.specs.Calls.{Sealed, Asks, delivered_record, sent_record, protected}
 use Rattle.spec_script.specs.Refusals.{Refusal, OfCall}
 use Rattle.serde_json.specs.Data.{Data}
-use Rattle.n32_values.specs.Reading.{tree_from}
+use Rattle.spec_documents.specs.Reading.{tree_from}
 use Rattle.spec_documents.specs.Place as place
 use Rattle.spec_script.specs.LineTree.{text_value, value_tree, or_other_number}
 use Rattle.spec_script.specs.Events.{Event, AddNode, AddContext, AddKeys, Send, Inject, Deliver, Restart, event_of, or_bad_event, line_event}

@@ -4,7 +4,7 @@ use Rattle.std.specs.Prelude.{option_and_then, codes}
 use Rattle.serde_json.specs.Data as json
 use Rattle.spec_documents.specs.Tree.{Tree, items, members, Members, trees, object, depth, items_depth}
 use Rattle.spec_documents.proofs.FieldLemmas.{list-trees}
-use Rattle.n32_values.specs.Reading.{tree_from, HasReading, ReadsTo, HasOtherNumber}
+use Rattle.spec_documents.specs.Reading.{tree_from, HasReading, ReadsTo, HasOtherNumber}
 use Rattle.spec_exchange.specs.Decoding.{document_of}
 use Rattle.spec_exchange.specs.Rebuilding.{values_in, values_of}
 

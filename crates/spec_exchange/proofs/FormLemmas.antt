@@ -4,7 +4,7 @@ use Rattle.std.specs.Prelude.{option_and_then, option_map, is_none, ◌==◌}
 use Rattle.std.proofs.lemmas.Bool.{eqb-true, eq-eqb}
 use Rattle.spec_documents.specs.Tree.{Tree, Members, members}
 use Rattle.spec_messages.specs.Message.{text_at, any_text, wanted}
-use Rattle.n32_values.specs.Base64url.{base64url}
+use Rattle.spec_documents.specs.Base64url.{base64url}
 use Rattle.jwe_flat.specs.Header.{object_in}
 use Rattle.jwe_flat.specs.Form.{HasBytes, HasCount, HasText, HasHeader, ReadsJwe, HasForm, AreRightBefore}
 use Rattle.jwe_flat.specs.declared.jwe.FlatJwe.{FlatJwe}

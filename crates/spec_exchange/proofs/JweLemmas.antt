@@ -2,9 +2,9 @@
 use Rattle.std.proofs.Common.{◌≡◌, ℕ, Bool, true, false, List, ◌++◌, Option, Some, None, refl, sym, ap, ◌∙◌, cond}
 use Rattle.std.specs.Prelude.{bytes_eq, option_and_then}
 use Rattle.std.proofs.lemmas.Slice.Eq.{bytes_eq-Decides}
-use Rattle.gcm_mode.specs.Gcm.{tag_of, with_key_stream}
+use Rattle.spec_sealing.specs.Gcm.{tag_of, with_key_stream}
 use Rattle.spec_documents.specs.Tree.{Tree, Members, members}
-use Rattle.n32_values.specs.Base64url.{base64url}
+use Rattle.spec_documents.specs.Base64url.{base64url}
 use Rattle.jwe_flat.specs.Keys.{suite_of, content_cipher}
 use Rattle.jwe_flat.specs.Header.{header_text, header_fault, members_if, object_in, ReadsHeader, HeaderIs, FaultIs}
 use Rattle.jwe_flat.specs.Sealing.{before_aad, additional_data, JweOf, Opens, HasOtherTag}

@@ -4,8 +4,8 @@ use Rattle.std.specs.Prelude.{option_and_then, option_map}
 use Rattle.base64.specs.GeneralPurpose.{IsBytes}
 use Rattle.spec_documents.specs.Tree.{Tree, Members, get_member}
 use Rattle.spec_messages.specs.Message.{wanted}
-use Rattle.n32_values.specs.Base64url.{base64url}
-use Rattle.n32_values.specs.Reading.{ReadsTo}
+use Rattle.spec_documents.specs.Base64url.{base64url}
+use Rattle.spec_documents.specs.Reading.{ReadsTo}
 use Rattle.jwe_flat.specs.Header.{object_in}
 use Rattle.jwe_flat.specs.Form.{ReadsJwe, HasForm, AreRightBefore}
 use Rattle.jwe_flat.specs.declared.jwe.FlatJwe.{FlatJwe}

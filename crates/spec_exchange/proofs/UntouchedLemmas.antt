@@ -17,9 +17,9 @@ use Rattle.spec_messages.specs.Fault.{block_fault, member_fault, is_meta_node, m
 use Rattle.spec_messages.specs.Rebuilt.{FillFault, fill_fault}
 use Rattle.spec_messages.proofs.BlockFaults.{first_none, when_none}
 use Rattle.spec_records.specs.Records.{OneKey, KeySet, Context, Record, record_limit, open_context, keys, seq_at, seq_with}
-use Rattle.n32_values.specs.Base64url.{base64url}
-use Rattle.n32_values.specs.Document.{IsDocument}
-use Rattle.n32_values.proofs.RoundTrip.{reads_back}
+use Rattle.spec_documents.specs.Base64url.{base64url}
+use Rattle.spec_documents.specs.Document.{IsDocument}
+use Rattle.spec_documents.proofs.RoundTrip.{reads_back}
 use Rattle.json.proofs.Printed.Utf8.{IsUtf8-are_ascii}
 use Rattle.spec_exchange.specs.Chain.{or_refused, none_of, unless}
 use Rattle.spec_exchange.specs.Decoding.{document_of}
@@ -30,8 +30,8 @@ use Rattle.spec_exchange.specs.Refusals.{Limit, many_headers, many_items, many_v
 use Rattle.spec_exchange.specs.FirstFailed.{receive_key, first_failed_of, first_failed}
 use Rattle.spec_exchange.specs.Jwe.{content_key, misfit, opened, nonce, sealed, carrier}
 use Rattle.spec_exchange.specs.Untouched.{mapping_under, block_under, values_under, IsSendable, HasNames, AreValues, IsReady, delivery_of}
-use Rattle.aes_block.proofs.Below as below
-use Rattle.aes_block.proofs.Below.{same_below}
+use Rattle.spec_documents.proofs.Below as below
+use Rattle.spec_documents.proofs.Below.{same_below}
 use Rattle.jwe_flat.specs.Form.{HasParts, HasTexts, jwe_tree}
 use Rattle.jwe_flat.specs.Sealing.{JweOf, SealedJweOpens}
 use Rattle.jwe_flat.specs.declared.jwe.FlatJwe.{FlatJwe}

@@ -4,8 +4,8 @@ ghost use Rattle.std.specs.Prelude.{◌≡◌, ◌≢◌, ℕ, List, Option, Som
 ghost use Rattle.base64.specs.GeneralPurpose.{IsBytes};
 ghost use Rattle.serde_json.specs.Data.{Data};
 ghost use Rattle.spec_documents.specs.Tree.{Tree, Members, get_member};
-ghost use Rattle.n32_values.specs.Base64url.{base64url};
-ghost use Rattle.n32_values.specs.Reading.{HasReading, ReadsTo, HasOtherNumber};
+ghost use Rattle.spec_documents.specs.Base64url.{base64url};
+ghost use Rattle.spec_documents.specs.Reading.{HasReading, ReadsTo, HasOtherNumber};
 ghost use Rattle.jwe_flat.specs.Keys.{suite_of};
 ghost use Rattle.jwe_flat.specs.Header.{FaultIs, object_in};
 ghost use Rattle.jwe_flat.specs.Form.{ReadsJwe, IsRefused};

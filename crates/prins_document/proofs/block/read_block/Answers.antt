@@ -1,6 +1,6 @@
 use Rattle.std.proofs.Common.{subst, sym, ap, ◌∙◌}
 use Rattle.base64.specs.GeneralPurpose.{IsBytes}
-use Rattle.n32_values.specs.Base64url.{base64url}
+use Rattle.spec_documents.specs.Base64url.{base64url}
 use Rattle.prins_document.proofs.Refusing.{aad_refused}
 use Rattle.prins_document.proofs.block.read_block.Goals as goal
 
