@@ -73,7 +73,7 @@ struct Held {
     store: Option<Store>,
 }
 
-fn held(alloc: Global, texts: &[&str]) -> Held {
+fn read_held(alloc: Global, texts: &[&str]) -> Held {
     Held {
         node: Text::from_text(alloc, "A").ok(),
         store: open_store(alloc, &mut keeper_of(alloc, texts, &[])).ok(),
@@ -83,14 +83,14 @@ fn held(alloc: Global, texts: &[&str]) -> Held {
 #[test]
 fn questions_are_answered_from_what_is_held(rt: HostRuntime) {
     let texts = [KEYED, OPENED, SENT, KEYED, DELIVERED, DELIVERED, REPLIED];
-    match held(rt.alloc(), &texts) {
+    match read_held(rt.alloc(), &texts) {
         Held {
             node: Some(node),
             store: Some(store),
         } => check_held(&rt, &store, &node),
         _ => assert!(rt; false),
     }
-    match held(rt.alloc(), &[OPENED, KEYED, CLOSED]) {
+    match read_held(rt.alloc(), &[OPENED, KEYED, CLOSED]) {
         Held {
             node: Some(node),
             store: Some(store),

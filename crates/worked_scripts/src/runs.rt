@@ -124,7 +124,13 @@ fn source_of(alloc: Global, script: &[u8], fails: &[u64]) -> Option<MemSource> {
 }
 
 // The words of a call, a script, and the calls of source and sink that fail.
-fn objects(alloc: Global, words: &[&str], script: &[u8], reads: &[u64], writes: &[u64]) -> Objects {
+fn objects_of(
+    alloc: Global,
+    words: &[&str],
+    script: &[u8],
+    reads: &[u64],
+    writes: &[u64],
+) -> Objects {
     Objects {
         words: words_of(alloc, words),
         source: source_of(alloc, script, reads),
@@ -184,7 +190,7 @@ fn replays<K: Keeper>(
 ) -> bool {
     let script = joined(alloc, events);
     let output = joined(alloc, answers);
-    let objects = objects(alloc, &["replay"], script.as_bytes(), &[], &[]);
+    let objects = objects_of(alloc, &["replay"], script.as_bytes(), &[], &[]);
     ends(alloc, objects, keeper, wanted, output.as_str())
 }
 
@@ -344,7 +350,7 @@ fn blocks(
     wanted: Status,
     output: &str,
 ) -> bool {
-    let objects = objects(alloc, &["blocks"], script, reads, writes);
+    let objects = objects_of(alloc, &["blocks"], script, reads, writes);
     ends(
         alloc,
         objects,
@@ -402,7 +408,7 @@ fn words_name_a_command_and_perhaps_a_file(rt: HostRuntime) {
         (["block"].as_slice(), Status::Words),
         (["records"].as_slice(), Status::Words),
     ] {
-        let objects = objects(rt.alloc(), words, b"", &[], &[]);
+        let objects = objects_of(rt.alloc(), words, b"", &[], &[]);
         let mut keeper = keeper_of(rt.alloc(), &[], &[]);
         assert!(rt; ends(rt.alloc(), objects, &mut keeper, wanted, ""));
     }
@@ -415,7 +421,7 @@ fn words_of_another_shape_are_refused_unread(rt: HostRuntime) {
         ["blocks", "x"].as_slice(),
         ["block"].as_slice(),
     ] {
-        let objects = objects(rt.alloc(), words, b"[]", &[0], &[0]);
+        let objects = objects_of(rt.alloc(), words, b"[]", &[0], &[0]);
         let mut keeper = keeper_of(rt.alloc(), &[], &[]);
         assert!(rt; ends(rt.alloc(), objects, &mut keeper, Status::Words, ""));
     }
