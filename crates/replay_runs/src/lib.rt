@@ -14,8 +14,3 @@ mod status;
 pub use command::{Command, journal_file, read_command};
 pub use running::run;
 pub use status::Status;
-
-#[cfg(test)]
-mod block_tests;
-#[cfg(test)]
-mod replay_tests;
