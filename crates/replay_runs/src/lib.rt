@@ -4,7 +4,6 @@
 //! the keeper holds their records.
 #![tactic(auto)]
 
-mod blocks;
 mod command;
 pub mod laws;
 mod replay;

@@ -1,7 +1,7 @@
 use Rattle.std.proofs.Common.{◌≡◌, Err}
 use Rattle.n32_values.specs.declared.read.DocFault.TheVariants.{Syntax, Number}
-use Rattle.replay_world.proofs.Read.{tree_read, syntax_read, number_read}
-use Rattle.replay_runs.proofs.blocks.read_line.Goals as goal
+use Rattle.blocks_word.proofs.Read.{tree_read, syntax_read, number_read}
+use Rattle.blocks_word.proofs.answering.read_line.Goals as goal
 
 pub returns-in-Ok : goal.returns-in-Ok
 returns-in-Ok c = tree_read c.args.line.now _ c.in-Ok.ensures.tree

@@ -2,8 +2,8 @@
 use Rattle.std.specs.Prelude.{◌≡◌, ⊤, Result, Ok, Err}
 use Rattle.spec_script.specs.Refusals.{Refusal}
 use Rattle.script_answers.specs.View.{refusal_view}
-use Rattle.replay_runs.specs.declared.blocks.Unanswered.{Unanswered}
-use Rattle.replay_runs.specs.declared.blocks.Unanswered.TheVariants.{Refused, NoMemory}
+use Rattle.blocks_word.specs.declared.answering.Unanswered.{Unanswered}
+use Rattle.blocks_word.specs.declared.answering.Unanswered.TheVariants.{Refused, NoMemory}
 
 -- what a step gives is what the definition gives, unless memory was refused
 abbrev pub Refuses : {B : Type 0} → Unanswered → Result B Refusal → Type 0

@@ -67,5 +67,9 @@ first_answers count script = answers_from 1 (take count (lines_of script))
 abbrev pub gives_block : {M : Type 0} → M → ℕ → List ℕ → List ℕ → M → Type 0
 gives_block old n line text new = (text ≡ block_answer n line) × (new ≡ old)
 
+-- where memory is refused it gives no answer
+abbrev pub gives_none : {M : Type 0} → M → ℕ → List ℕ → M → Type 0
+gives_none old n line new = new ≡ old
+
 abbrev pub IsSame : {M : Type 0} → M → M → Type 0
 IsSame old new = new ≡ old

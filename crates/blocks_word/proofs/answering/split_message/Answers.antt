@@ -3,8 +3,8 @@ use Rattle.spec_messages.specs.Plain.{empty_policy}
 use Rattle.http_message.specs.Reading.{message_view}
 use Rattle.reformat_blocks.specs.Splitting.{splitting}
 use Rattle.block_forms.specs.Metadata.{meta_view}
-use Rattle.replay_runs.specs.BlockAnswers.{no_meta, or_limit_refusal}
-use Rattle.replay_runs.proofs.blocks.split_message.Goals as goal
+use Rattle.blocks_word.specs.BlockAnswers.{no_meta, or_limit_refusal}
+use Rattle.blocks_word.proofs.answering.split_message.Goals as goal
 
 pub returns-in-Ok : goal.returns-in-Ok
 returns-in-Ok c =

@@ -6,8 +6,8 @@ ghost use Rattle.http_message.specs.Reading.{message_view};
 ghost use Rattle.block_forms.specs.Metadata.{meta_view};
 ghost use Rattle.spec_script.specs.LineTree.{line_tree};
 ghost use Rattle.spec_script.specs.Messages.{message_in};
-ghost use Rattle.replay_runs.specs.BlockAnswers.{plain_parts, line_parts, parts_tree, no_meta, block_answer};
-ghost use Rattle.replay_runs.specs.Views.{Gives};
+ghost use Rattle.blocks_word.specs.BlockAnswers.{plain_parts, line_parts, parts_tree, no_meta, block_answer};
+ghost use Rattle.blocks_word.specs.Views.{Gives};
 
 use doc_forms::put;
 use http_message::{Message, MessageRead, read_message};
@@ -15,7 +15,6 @@ use n32_values::{Bytes, Doc, DocFault, NoMemory, Node, NodeMap, Text, Whole, doc
 use policy_tables::Policy;
 use reformat_blocks::{Meta, Split, SplitFault, split};
 use script_answers::{Refusal, refusal_text};
-use script_loop::Machine;
 use std::alloc::Global;
 
 // Why a line has no block.
@@ -28,7 +27,7 @@ enum Unanswered {
 }
 
 impl From<NoMemory> for Unanswered {
-    ghost use Rattle.replay_runs.specs.Views.{IsMemory};
+    ghost use Rattle.blocks_word.specs.Views.{IsMemory};
 
     ghost from_gives = { λ _ why. IsMemory why };
 
@@ -117,31 +116,5 @@ pub fn answer(alloc: Global, number: u64, line: &[u8]) -> Result<Bytes, NoMemory
         Ok(split) => block_text(alloc, number, split),
         Err(Unanswered::Refused(refusal)) => refusal_text(alloc, number, &refusal),
         Err(Unanswered::NoMemory) => Err(NoMemory),
-    }
-}
-
-/// The machine of `blocks`. It keeps nothing between two lines.
-#[derive(Drop)]
-pub struct Blocks;
-
-impl Machine for Blocks {
-    ghost use Rattle.std.specs.Prelude.{refl};
-    ghost use Rattle.std.proofs.Common.{◌∙◌};
-    ghost use Rattle.replay_runs.specs.BlockAnswers.{gives_block, IsSame};
-
-    ghost ready = { λ _. Unit {0} };
-
-    ghost gives = { gives_block };
-
-    ghost gives_up = { IsSame };
-
-    ghost later = { IsSame };
-
-    ghost stays = { λ _. refl };
-
-    ghost goes_on = { λ a b c first then. then ∙ first };
-
-    fn answer(&mut self, alloc: Global, number: u64, line: &[u8]) -> Result<Bytes, NoMemory> {
-        answer(alloc, number, line)
     }
 }
