@@ -2,27 +2,16 @@
 use Rattle.std.proofs.Common.{◌≡◌, ℕ, Option, Some, None, Err, refl}
 use Rattle.spec_documents.specs.Tree.{Tree}
 use Rattle.spec_messages.specs.Fault.{BlockFault, block_fault}
-use Rattle.block_forms.specs.Faults.{Tells, IsBeyond}
-use Rattle.block_forms.specs.declared.fault.LimitName.{LimitName}
-use Rattle.block_forms.specs.declared.fault.LimitName.TheVariants.{Headers, Payload, Values, Block, Wire, Alter, Records}
+use Rattle.block_forms.specs.Faults.{Tells}
 use Rattle.block_forms.specs.declared.fault.BlockWhy.{BlockWhy}
 use Rattle.block_forms.specs.declared.fault.BlockWhy.TheVariants as why
 use Rattle.spec_exchange.specs.Chain.{or_refused}
 use Rattle.spec_exchange.specs.Rebuilding.{read_block, no_block}
 use Rattle.spec_exchange.specs.Refusals.{Reconstruction}
 
-beyond_none : (l : LimitName) → IsBeyond l None → ⊥
-beyond_none Headers h = cc
-beyond_none Payload h = cc
-beyond_none Values h = cc
-beyond_none Block h = absurd h
-beyond_none Wire h = absurd h
-beyond_none Alter h = absurd h
-beyond_none Records h = absurd h
-
 tells_none : (w : BlockWhy) → Tells w None → ⊥
 tells_none (why.Member name) h = cc
-tells_none (why.Limit which) h = beyond_none which h
+tells_none (why.Limit which) h = cc
 tells_none (why.IePath k) h = cc
 tells_none (why.Overlap k) h = cc
 tells_none (why.BadHole place) h = cc

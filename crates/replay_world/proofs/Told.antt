@@ -30,18 +30,9 @@ use Rattle.replay_world.specs.Refusing.{sending_refusal, receiving_refusal}
 
 -- ---- the first fault of a block
 
-limit_told : (l : LimitName) (fault : block.BlockFault) → blocks.IsBeyond l (Some fault) → fault ≡ fault_view (why.Limit l)
-limit_told limits.Headers fault h = cc
-limit_told limits.Payload fault h = cc
-limit_told limits.Values fault h = cc
-limit_told limits.Block fault h = absurd h
-limit_told limits.Wire fault h = absurd h
-limit_told limits.Alter fault h = absurd h
-limit_told limits.Records fault h = absurd h
-
 fault_told : (w : BlockWhy) (fault : block.BlockFault) → blocks.Tells w (Some fault) → fault ≡ fault_view w
 fault_told (why.Member name) fault h = cc
-fault_told (why.Limit l) fault h = limit_told l fault h
+fault_told (why.Limit l) fault h = cc
 fault_told (why.IePath k) fault h = cc
 fault_told (why.Overlap k) fault h = cc
 fault_told (why.BadHole place) fault h = cc

@@ -8,6 +8,7 @@ use Rattle.spec_messages.specs.Rebuilt.{not_text, too_deep}
 use Rattle.spec_exchange.specs.Rebuilding as rebuilding
 use Rattle.spec_exchange.specs.Refusals as exchange
 use Rattle.spec_script.specs.Refusals as spec
+use Rattle.block_forms.specs.Faults as faults
 use Rattle.block_forms.specs.declared.fault.LimitName.{LimitName}
 use Rattle.block_forms.specs.declared.fault.LimitName.TheVariants as limits
 use Rattle.block_forms.specs.declared.fault.BlockWhy.{BlockWhy}
@@ -17,19 +18,9 @@ use Rattle.receiving_sepp.specs.declared.refused.RebuildWhy.TheVariants.{Values,
 use Rattle.script_answers.specs.declared.refusal.Refusal.{Refusal}
 use Rattle.script_answers.specs.declared.refusal.Refusal.TheVariants as refusals
 
--- a block that is read passes one of the first three limits
-abbrev pub block_limit_view : LimitName → block.Limit
-block_limit_view limits.Headers = block.many_headers
-block_limit_view limits.Payload = block.many_items
-block_limit_view limits.Values = block.many_values
-block_limit_view limits.Block = block.many_values
-block_limit_view limits.Wire = block.many_values
-block_limit_view limits.Alter = block.many_values
-block_limit_view limits.Records = block.many_values
-
 abbrev pub fault_view : BlockWhy → block.BlockFault
 fault_view (blocks.Member name) = block.bad_member name
-fault_view (blocks.Limit which) = block.beyond (block_limit_view which)
+fault_view (blocks.Limit which) = block.beyond (faults.limit_view which)
 fault_view (blocks.IePath k) = block.ie_path k
 fault_view (blocks.Overlap k) = block.overlap k
 fault_view (blocks.BadHole place) = block.bad_holes (bad_hole (place_view place))

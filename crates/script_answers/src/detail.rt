@@ -4,7 +4,9 @@ ghost use Rattle.std.specs.Fmt.{decimal};
 ghost use Rattle.spec_script.specs.RefusalTexts as spec;
 ghost use Rattle.http_message.specs.Reading.{member_view};
 ghost use Rattle.enc_index.specs.Places.{place_view};
-ghost use Rattle.script_answers.specs.View.{block_limit_view, fault_view, limit_view, refusal_view, why_view};
+ghost use Rattle.spec_messages.specs.Limits as limits;
+ghost use Rattle.block_forms.specs.Faults as faults;
+ghost use Rattle.script_answers.specs.View.{fault_view, limit_view, refusal_view, why_view};
 
 use crate::refusal::Refusal;
 use block_forms::{BlockWhy, LimitName};
@@ -59,14 +61,17 @@ fn cipher_name(why: CipherWhy) -> &'static str
     }
 }
 
-// A block that is read passes one of three limits.
 fn block_limit_name(limit: LimitName) -> &'static str
-    ensures { result.now ≡ spec.block_limit_name (block_limit_view limit) }
+    ensures { result.now ≡ limits.limit_name (faults.limit_view limit) }
 {
     match limit {
         LimitName::Headers => "headers",
         LimitName::Payload => "payload",
-        _ => "values",
+        LimitName::Values => "values",
+        LimitName::Block => "block",
+        LimitName::Wire => "wire",
+        LimitName::Alter => "alter",
+        LimitName::Records => "records",
     }
 }
 

@@ -5,6 +5,7 @@ use Rattle.spec_documents.specs.Place.{pointer_text}
 use Rattle.spec_documents.specs.Hole.{HolePlace, HoleFault, bad_hole, twice, missing}
 use Rattle.spec_messages.specs.Message.{Member, no_object, request_line, status_line, method, scheme, authority, path, version, query, headers}
 use Rattle.spec_messages.specs.AddressText.{address_text}
+use Rattle.spec_messages.specs.Limits as limits
 use Rattle.spec_messages.specs.Fault as block
 use Rattle.spec_messages.specs.Rebuilt.{FillFault, not_text, too_deep}
 use Rattle.jwe_flat.specs.declared.opening.CipherWhy.{CipherWhy}
@@ -111,11 +112,6 @@ cipher_name Enc = codes "enc"
 cipher_name Zip = codes "zip"
 cipher_name Crit = codes "crit"
 
-abbrev pub block_limit_name : block.Limit → List ℕ
-block_limit_name block.many_headers = codes "headers"
-block_limit_name block.many_items = codes "payload"
-block_limit_name block.many_values = codes "values"
-
 abbrev pub part_text : Option ℕ → List ℕ
 part_text None = []
 part_text (Some k) = 35 ∷ decimal k
@@ -131,7 +127,7 @@ hole_text (missing n) = codes "MISSING " ++ decimal n
 
 abbrev pub block_text : block.BlockFault → List ℕ
 block_text (block.bad_member k) = codes "MEMBER " ++ k
-block_text (block.beyond l) = codes "LIMIT " ++ block_limit_name l
+block_text (block.beyond l) = codes "LIMIT " ++ limits.limit_name l
 block_text (block.ie_path k) = codes "IE_PATH " ++ decimal k
 block_text (block.overlap k) = codes "OVERLAP " ++ decimal k
 block_text (block.bad_holes why) = hole_text why
