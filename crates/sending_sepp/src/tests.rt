@@ -134,7 +134,7 @@ fn sent_last(alloc: Global) -> Result<WireDoc, Fail> {
 #[test]
 fn the_last_number_is_sent_once(rt: HostRuntime) -> Result<(), Fail> {
     let wire = sent_last(rt.alloc())?;
-    assert!(rt; wire.meta.message.as_str() == "00000000ffffffff");
+    assert!(rt; wire.message.value == 0xffff_ffff);
     assert!(rt; wire.jwe.iv == [0, 1, 2, 3, 4, 5, 6, 7, 255, 255, 255, 255]);
     Ok(())
 }
@@ -159,9 +159,9 @@ fn sent_after_failed_put(alloc: Global, keeps: bool) -> Result<WireDoc, Fail> {
 #[test]
 fn a_number_comes_again_where_its_put_kept_nothing(rt: HostRuntime) -> Result<(), Fail> {
     let wire = sent_after_failed_put(rt.alloc(), false)?;
-    assert!(rt; wire.meta.message.as_str() == "0000000000000000");
+    assert!(rt; wire.message.value == 0);
     let wire = sent_after_failed_put(rt.alloc(), true)?;
-    assert!(rt; wire.meta.message.as_str() == "0000000000000001");
+    assert!(rt; wire.message.value == 1);
     Ok(())
 }
 
