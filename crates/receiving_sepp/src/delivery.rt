@@ -8,10 +8,10 @@ ghost use Rattle.receiving_sepp.specs.Outcome.{Delivers, delivery_view};
 
 use crate::checks::Checked;
 use crate::refused::{Delivered, Refused};
-use context_records::Record;
 use context_store::{AddFault, Store};
 use n32_outside::Keeper;
 use n32_values::Text;
+use context_records::Record;
 use std::alloc::Global;
 
 /// Puts the record of a checked message, and delivers it.

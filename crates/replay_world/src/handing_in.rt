@@ -17,13 +17,13 @@ ghost use Rattle.replay_world.specs.Fitting.{IsFit};
 use crate::sites::is_known;
 use crate::unanswered::{Unanswered, unread, unrecorded};
 use crate::world::World;
-use context_records::{Context, KeySet, Record};
 use context_store::Store;
 use n32_outside::Keeper;
 use n32_values::{Bytes, Hex64, Text};
 use policy_documents::{PolicyRead, read_policy};
 use script_answers::{Refusal, done_text};
 use script_events::HandedContext;
+use context_records::{Context, KeySet, Record};
 use std::alloc::Global;
 
 // The context that is handed in, with the policy that its document is of.

@@ -8,8 +8,8 @@ ghost use Rattle.context_records.specs.View.{context_view};
 ghost use Rattle.spec_exchange.specs.Calls as spec;
 
 use block_forms::Meta;
-use context_records::Context;
 use n32_values::{Hex64, NoMemory, Text, TextList, hex64_text};
+use context_records::Context;
 use std::alloc::Global;
 
 fn text_of(alloc: Global, id: Hex64) -> Result<Text, NoMemory>

@@ -9,11 +9,11 @@ ghost use Rattle.sending_sepp.specs.Outcome.{Records, sealed_view};
 use crate::checks::Checked;
 use crate::fault::SendFault;
 use block_forms::LimitName;
-use context_records::Record;
 use context_store::{AddFault, Store};
 use http_message::Kind;
 use n32_outside::Keeper;
 use n32_values::{Doc, Hex64, Text};
+use context_records::Record;
 use std::alloc::Global;
 
 /// Puts the record of a sealed request, and hands out its document.
