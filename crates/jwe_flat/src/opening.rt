@@ -52,6 +52,7 @@ impl From<NoMemory> for JweOpen {
 ///
 /// `Cipher` comes exactly where the header has a fault, and names the first in the order of
 /// `CipherWhy`. `Integrity` comes exactly where it has none and the tag is another one.
+#[tactic(auto, unfolding(spec_documents::specs::Chain::chains))]
 pub fn open_jwe(alloc: Global, jwe: &FlatJwe, key: &ContentKey) -> Result<Bytes, JweOpen>
     ensures { Gives shut_told (λ plain. plain) result (opens (content_key_view key.now) (jwe_view jwe.now)) }
 {

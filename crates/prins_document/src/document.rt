@@ -10,6 +10,7 @@ ghost use Rattle.prins_document.specs.View.{entries_of, part_told, wire_view};
 
 use crate::block::{Block, id_of, kind_of, read_block};
 use crate::data::{data_in, members_in, read_data};
+use block_forms::Meta;
 use http_message::Kind;
 use jwe_flat::{FlatJwe, JweMember};
 use n32_values::{Doc, Hex64, NoMemory, Node, NodeList, NodeMap, Text};
@@ -126,15 +127,18 @@ pub fn read_wire_doc(alloc: Global, doc: &Doc) -> Result<WireDoc, WireRead>
     let jwe = read_data(alloc, data)?;
     let Block { doc: block, meta } = read_block(alloc, jwe.aad.as_str())?;
     check_entries(map)?;
-    let context = id_of(&meta.context);
-    let message = id_of(&meta.message);
+    let Meta {
+        context,
+        message,
+        ipx,
+    } = meta;
     let kind = kind_of(&block);
     Ok(WireDoc {
         jwe,
         block,
-        context,
-        message,
-        authorized: meta.ipx,
+        context: id_of(&context),
+        message: id_of(&message),
+        authorized: ipx,
         kind,
     })
 }
