@@ -2,6 +2,7 @@ pub mod View
 pub mod Falls
 pub mod Lending
 pub mod Search
+pub mod Faults
 pub use Rattle.spec_documents.specs.Whole
 pub use Rattle.spec_documents.specs.Reading
 pub use Rattle.spec_documents.specs.Data

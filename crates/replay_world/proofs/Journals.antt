@@ -5,7 +5,7 @@ use Rattle.spec_messages.specs.Message.{Message, Member, message_of, body_depth,
 use Rattle.spec_records.specs.Records.{KeySet, Context, Record}
 use Rattle.spec_exchange.specs.Chain.{◌>>=◌, unless, none_of, or_refused}
 use Rattle.spec_exchange.specs.Refusals as exchange
-use Rattle.spec_exchange.specs.Received.{Received}
+use Rattle.spec_sealing.specs.Received.{Received}
 use Rattle.spec_exchange.specs.Outside.{Choice, Reading, Read, ReadFails, BadRecord, Putting, Kept, Lost, KeptUntold, Outcome, behind_reading, or_refusal}
 use Rattle.spec_exchange.specs.Outside as outside
 use Rattle.spec_exchange.specs.FirstFailed.{Delivery, first_failed_of, first_failed}

@@ -1,19 +1,15 @@
 //! Worked examples, by computation.
 
 ghost use Rattle.std.specs.Prelude.{◌≡◌, [], ◌∷◌, Some, None, Err, codes};
-ghost use Rattle.spec_documents.specs.Tree.{null, words, items, members, trees, object};
+ghost use Rattle.spec_documents.specs.Tree.{words};
 ghost use Rattle.spec_documents.specs.Compact.{compact_text};
 ghost use Rattle.spec_messages.specs.Policy.{path_var, body_at};
 ghost use Rattle.spec_messages.specs.Split.{cleared};
-ghost use Rattle.spec_messages.specs.Rows.{block_three, message_three, policy_one};
+ghost use Rattle.spec_messages.specs.Rows.{message_three, policy_one};
 ghost use Rattle.spec_documents.specs.Base64url.{base64url};
-ghost use Rattle.jwe_flat.specs.Header.{header_text};
-ghost use Rattle.jwe_flat.specs.declared.key.Suite.TheVariants.{A128Gcm};
-ghost use Rattle.spec_exchange.specs.Decoding.{bytes_of};
-ghost use Rattle.spec_exchange.specs.Rebuilding.{plaintext, in_clear};
-ghost use Rattle.spec_exchange.specs.Jwe.{nonce};
+ghost use Rattle.spec_exchange.specs.Rebuilding.{in_clear};
+ghost use Rattle.spec_exchange.specs.Nonce.{nonce};
 ghost use Rattle.spec_exchange.specs.Untouched.{block_under, values_under};
-ghost use Rattle.spec_exchange.specs.Received.{entries_in, if_has_meta, received};
 ghost use Rattle.spec_exchange.specs.Refusals.{ContextNotFound, NoKeys, SeqSpent, NoRequest, Answered, Form};
 ghost use Rattle.spec_exchange.specs.FirstFailed.{first_failed};
 ghost use Rattle.spec_exchange.specs.Calls.{Asks, Replies, protected};
