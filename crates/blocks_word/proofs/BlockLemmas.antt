@@ -83,11 +83,9 @@ in_part script left old new before after ending a = record {
 part_front : (script : List ℕ) (left before after : Option (List ℕ)) (ending : Ending) → WritesInPart script left before after ending → WritesFront script before after
 part_front script left before after ending w = elim w.stops [ inl c ↦ cut_front c | inr n ↦ whole n.1 ]
   where
-    first : List ℕ
-    first = first_answers w.number script
-
     cut_front : CutsAnswer script w.taken w.number w.front → WritesFront script before after
     cut_front c =
+        let first = first_answers w.number script in
         let lines = lines_of script in
         let few : length (take w.number lines) ≡ w.number = length-take-le w.number lines (let within = slice_get_within lines w.number c.line c.next.there in omega (arith, within)) in
         let place : 1 + length (take w.number lines) ≡ w.number + 1 = omega (arith, few) in
@@ -104,6 +102,7 @@ part_front script left before after ending w = elim w.stops [ inl c ↦ cut_fron
 
     whole : w.front ≡ [] → WritesFront script before after
     whole none =
+        let first = first_answers w.number script in
         let more = answers_from (1 + length (take w.number (lines_of script))) (drop w.number (lines_of script)) in
         record {
           front = first ++ w.front;

@@ -65,7 +65,7 @@ cut_reply held faults world script taken number line front first answers state m
       text = sym (one.1 ∙ ap (λ (z : List ℕ). z ++ 10 ∷ []) g.text_is);
       held_is = g.held_is;
       keeper = keeper_append answers ((number + 1, r.answer) ∷ []) first (faults mid) (faults new) k
-        (keeper_more (number + 1) r.answer [] (faults mid) (faults new) (faults new) one.2.later g.failed sound (keeper_none (faults new)));
+          (keeper_more (number + 1) r.answer [] (faults mid) (faults new) (faults new) one.2.later g.failed sound (keeper_none (faults new)));
     }
 
 pub given_reply : {M : Type 0} (held : M → Option (List (List ℕ))) (faults : M → ℕ) (world : M → World) (gives_up : GivesUp M) (script taken : List ℕ) (number : ℕ) (line front : List ℕ) (first : ℕ) (answers : List Numbered) (state : State) (mid new : M) (e : Ending)

@@ -202,11 +202,9 @@ cut_begins script taken number records answers mid front held faults faults' ans
 front_of_part : (script : List ℕ) (left : Option (List ℕ)) (records : List Record) (held : Option (List (List ℕ))) (faults faults' : ℕ) (before after : Option (List ℕ)) (s : Status) → RepliesInPart script left records held faults faults' before after s → WritesFront script records before after
 front_of_part script left records held faults faults' before after s a = elim a.stops [ inl c ↦ cut c | inr m ↦ whole m.none ]
   where
-    text : List ℕ
-    text = answers_text a.answers
-
     cut : CutsReply script a.taken a.number a.answers a.mid a.front held faults faults' → WritesFront script records before after
     cut c =
+        let text : List ℕ = answers_text a.answers in
         let b = cut_begins script a.taken a.number records a.answers a.mid a.front held faults faults' a.answered c in
         let own : List ℕ = answer_text (a.number + 1) c.answer ++ 10 ∷ [] in
         let all : answers_text (a.answers ++ (a.number + 1, c.answer) ∷ []) ≡ (text ++ a.front) ++ c.rest =
@@ -223,6 +221,7 @@ front_of_part script left records held faults faults' before after s a = elim a.
 
     whole : a.front ≡ [] → WritesFront script records before after
     whole none =
+        let text : List ℕ = answers_text a.answers in
         let b = begins_output a.number script records a.answers a.mid a.answered in
         record {
           out = answers_text b.whole;

@@ -63,7 +63,7 @@ pub record RunsBlocks {K : Type 0} (keeper keeper' : K) (before after : Seen) (r
 pub record RunsReplay {S O : Type 0} (source source' : S) (sink sink' : O) (before after : Seen) (result : Status) : Type 0 where
   -- what is left, by the status, where the source tells its bytes, and the keeper texts that are all of records
   pub leaves : IfSome before.left (λ script. OverRecords before.held (λ records.
-    Leaves script after.left records after.held before.keeper_faults after.keeper_faults before.written after.written result))
+      Leaves script after.left records after.held before.keeper_faults after.keeper_faults before.written after.written result))
   -- whatever the status, a front of an output over these records was written
   pub front : IfSome before.left (λ script. OverRecords before.held (λ records. WritesFront script records before.written after.written))
   -- at most one byte more than a script may have is read
@@ -74,7 +74,7 @@ pub record RunsReplay {S O : Type 0} (source source' : S) (sink sink' : O) (befo
   pub load : AtLoad (Untouched source source' sink sink' before.held after.held) result
   -- A script within the limits over records that may be held is answered whole, unless memory was refused or source, sink or keeper failed.
   pub complete : IfSome before.left (λ script. IsWithin script → IfSome before.held (λ texts. AreHeld texts
-    → IsComplete (Rose before.read_faults after.read_faults) (Rose before.write_faults after.write_faults) (Rose before.keeper_faults after.keeper_faults) result))
+      → IsComplete (Rose before.read_faults after.read_faults) (Rose before.write_faults after.write_faults) (Rose before.keeper_faults after.keeper_faults) result))
   pub known : result ≢ status.Words
 
 -- source, sink and keeper, and what they tell, before and after
