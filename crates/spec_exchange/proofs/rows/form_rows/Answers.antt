@@ -2,6 +2,6 @@ use Rattle.std.proofs.Common.{refl}
 use Rattle.spec_documents.specs.Chain as chain
 use Rattle.spec_exchange.proofs.rows.form_rows.Goals as goal
 
-pub returns-clause-told : goal.returns-clause-told
+pub returns : goal.returns
 unfolding chain.◌>>=◌
-returns-clause-told c = refl
+returns c = refl
