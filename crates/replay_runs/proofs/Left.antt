@@ -1,5 +1,5 @@
 -- From what a run over any machine leaves to what a run of `replay` leaves.
-use Rattle.std.proofs.Common.{◌≡◌, ◌≤◌, ◌-◌, ℕ, List, [], ◌∷◌, length, take, refl, ap, sym, subst, arith, None, Some, IfSome, inl, inr}
+use Rattle.std.proofs.Common.{◌≡◌, ◌≤◌, ◌-◌, ℕ, List, [], ◌∷◌, ◌++◌, length, take, refl, ap, sym, subst, arith, None, Some, IfSome, inl, inr}
 use Rattle.std.specs.Prelude.{Option, count_by}
 use Rattle.std.specs.Io.KnownBytes.{Appends}
 use Rattle.n32_outside.specs.Causes.{Rose}
