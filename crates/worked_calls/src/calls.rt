@@ -3,7 +3,7 @@ use crate::args::Args;
 use crate::given::Given;
 use crate::{
     blocks, changes, ciphers, differences, holes, jwes, messages, pointers, policies, records,
-    sealing, values, wires,
+    sealing, texts, values, wires,
 };
 use n32_values::Node;
 use std::alloc::Global;
@@ -27,6 +27,7 @@ pub fn answer_call(alloc: Global, name: &str, args: Args<'_>, given: &Given) -> 
         "write_item" => changes::write_item_call(alloc, args),
         "take_item" => changes::take_item_call(alloc, args),
         "doc_list" => changes::doc_list_call(alloc, args),
+        "fits" => texts::fits_call(args, given),
         "read_pointer" => pointers::read_pointer_call(alloc, args),
         "pointer_text" => pointers::pointer_text_call(alloc, args),
         "is_prefix" => pointers::is_prefix_call(given),

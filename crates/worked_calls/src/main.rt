@@ -26,6 +26,7 @@ mod policies;
 mod records;
 mod rows;
 mod sealing;
+mod texts;
 mod values;
 mod wires;
 
