@@ -173,12 +173,17 @@ fn words_name_a_command_and_perhaps_a_file(rt: HostRuntime) -> Result<(), Fail> 
     Ok(())
 }
 
+// A run over the file, which is locked for it alone.
+fn replay_file(rt: &HostRuntime, path: &str) -> Result<(Status, MemSink), Fail> {
+    let mut keeper = FileKeeper::new(rt, rt.alloc(), path)?;
+    replay(rt.alloc(), OPENING, &mut keeper)
+}
+
 #[test]
 fn records_are_kept_in_a_file(rt: HostRuntime) -> Result<(), Fail> {
     let alloc = rt.alloc();
     let path = "replay_records.txt";
-    let mut keeper = FileKeeper::new(&rt, alloc, path)?;
-    let (status, _sink) = replay(alloc, OPENING, &mut keeper)?;
+    let (status, _sink) = replay_file(&rt, path)?;
     assert_eq!(rt; status, Status::Done);
 
     // An unfinished last line is no record, and is cut off.
@@ -186,16 +191,14 @@ fn records_are_kept_in_a_file(rt: HostRuntime) -> Result<(), Fail> {
     let mut torn = Vec::from_slice(alloc, &whole)?;
     torn.extend_from_slice(b"{\"is\":")?;
     fs::write(&rt, path, &torn)?;
-    let mut keeper = FileKeeper::new(&rt, alloc, path)?;
     let wanted =
         "{\"line\":1,\"ok\":\"node\"}\n{\"line\":2,\"ok\":\"node\"}\n{\"line\":3,\"name\":\"CONTEXT_USED\",\"refused\":44}\n{\"line\":4,\"name\":\"CONTEXT_USED\",\"refused\":44}\n";
-    let (status, sink) = replay(alloc, OPENING, &mut keeper)?;
+    let (status, sink) = replay_file(&rt, path)?;
     assert_eq!(rt; status, Status::Done);
     assert_eq!(rt; sink.written(), wanted.as_bytes());
 
     fs::write(&rt, path, "x\n")?;
-    let mut keeper = FileKeeper::new(&rt, alloc, path)?;
-    let (status, _sink) = replay(alloc, OPENING, &mut keeper)?;
+    let (status, _sink) = replay_file(&rt, path)?;
     assert_eq!(rt; status, Status::Journal(0));
     fs::remove_file(&rt, path)?;
     Ok(())
