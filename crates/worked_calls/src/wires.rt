@@ -1,4 +1,4 @@
-// The calls of `prins_document` and `sealed_values`.
+// The calls of `prins_document`.
 use crate::args::Args;
 use crate::given::Given;
 use crate::jwes::member_word;
@@ -7,7 +7,7 @@ use crate::values::words_of;
 use http_message::Kind;
 use n32_values::{Node, NodeList, NodeMap, copy_doc};
 use prins_document::{WireDoc, WireMember, WireRead, entries, read_wire_doc, wire_doc};
-use sealed_values::{ValuesRead, read_values, values_text};
+use prins_document::{ValuesRead, read_values, values_text};
 use std::alloc::Global;
 
 fn part_word(part: WireMember) -> &'static str {
