@@ -5,9 +5,7 @@ use Rattle.spec_documents.specs.Place.{Pointer}
 use Rattle.spec_documents.specs.Hole.{HolePlace, HoleFault}
 use Rattle.spec_messages.specs.Fault.{BlockFault, beyond, ie_path, overlap, bad_holes, deep, first_of, when, as_fault, first_pathless, first_overlap, hole_fault, items_depth, path_of, or_root}
 use Rattle.block_forms.specs.Paths.{paths_of, overlaps, overlap_from}
-use Rattle.block_forms.specs.Faults.{IsFault, Tells, IsBeyond, IsLimit, later_fault}
-use Rattle.block_forms.specs.declared.fault.LimitName.{LimitName}
-use Rattle.block_forms.specs.declared.fault.LimitName.TheVariants.{Headers, Payload, Values, Block, Wire, Alter, Records}
+use Rattle.block_forms.specs.Faults.{IsFault, Tells, later_fault}
 use Rattle.block_forms.specs.declared.fault.BlockWhy.{BlockWhy}
 use Rattle.block_forms.specs.declared.fault.BlockWhy.TheVariants as why
 
@@ -18,34 +16,15 @@ overlap_same k seen (t ∷ ts) = ap (λ o. if overlaps (or_root (path_of t)) see
 met : {X : Type 0} (a b : Option X) (x : X) → a ≡ Some x → first_of a b ≡ Some x
 met a b x e = rw e
 
--- an answer that tells the first of two faults
-beyond_first : (w : LimitName) (a b : Option BlockFault) → IsBeyond w a → IsBeyond w (first_of a b)
-beyond_first Headers a b h = met a b _ h
-beyond_first Payload a b h = met a b _ h
-beyond_first Values a b h = met a b _ h
-beyond_first Block a b h = absurd h
-beyond_first Wire a b h = absurd h
-beyond_first Alter a b h = absurd h
-beyond_first Records a b h = absurd h
-
 pub tells_first : (w : BlockWhy) (a b : Option BlockFault) → Tells w a → Tells w (first_of a b)
 tells_first (why.Member name) a b h = met a b _ h
-tells_first (why.Limit which) a b h = beyond_first which a b h
+tells_first (why.Limit which) a b h = met a b _ h
 tells_first (why.IePath k) a b h = met a b _ h
 tells_first (why.Overlap k) a b h = met a b _ h
 tells_first (why.BadHole place) a b h = met a b _ h
 tells_first (why.Twice n) a b h = met a b _ h
 tells_first (why.Missing n) a b h = met a b _ h
 tells_first why.Depth a b h = met a b _ h
-
-pub as_beyond : (w : LimitName) (o : _) → IsLimit w o → IsBeyond w (as_fault beyond o)
-as_beyond Headers o h = rw h refl
-as_beyond Payload o h = rw h refl
-as_beyond Values o h = rw h refl
-as_beyond Block o h = absurd h
-as_beyond Wire o h = absurd h
-as_beyond Alter o h = absurd h
-as_beyond Records o h = absurd h
 
 pub tells_at : (w : BlockWhy) (a b : Option BlockFault) → b ≡ a → Tells w a → Tells w b
 tells_at w a b e h = rw e h

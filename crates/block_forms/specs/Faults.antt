@@ -1,45 +1,32 @@
--- What an answer tells of the first fault of a block.
+-- What an answer tells of the first fault of a block, and of what there is too much.
 use Rattle.std.specs.Prelude.{◌≡◌, ℕ, List, [], Option, Some, None, Result, nat_lt, codes}
 use Rattle.spec_documents.specs.Tree.{Tree, get_member}
 use Rattle.spec_documents.specs.Hole.{HolePlace, HoleFault, bad_hole, twice, missing, places}
 use Rattle.spec_messages.specs.Block.{members_of}
-use Rattle.spec_messages.specs.Fault.{BlockFault, bad_member, beyond, ie_path, overlap, bad_holes, deep, Limit, many_headers, many_items, many_values, first_of, when, as_fault, first_pathless, first_overlap, hole_fault, items_depth, limit_fault, list_of}
+use Rattle.spec_messages.specs.Limits.{Limit, many_headers, many_items, many_values, long_block, full_wire, long_document, many_records}
+use Rattle.spec_messages.specs.Fault.{BlockFault, bad_member, beyond, ie_path, overlap, bad_holes, deep, first_of, when, as_fault, first_pathless, first_overlap, hole_fault, items_depth, limit_fault, list_of}
 use Rattle.enc_index.specs.Places.{place_view}
 use Rattle.block_forms.specs.declared.fault.LimitName.{LimitName}
 use Rattle.block_forms.specs.declared.fault.LimitName.TheVariants.{Headers, Payload, Values, Block, Wire, Alter, Records}
 use Rattle.block_forms.specs.declared.fault.BlockWhy.{BlockWhy}
 use Rattle.block_forms.specs.declared.fault.BlockWhy.TheVariants as why
 
--- the limits of a block that is read
-abbrev pub IsLimit : LimitName → Option Limit → Type 0
-IsLimit Headers limit = limit ≡ Some many_headers
-IsLimit Payload limit = limit ≡ Some many_items
-IsLimit Values limit = limit ≡ Some many_values
-IsLimit Block limit = ⊥
-IsLimit Wire limit = ⊥
-IsLimit Alter limit = ⊥
-IsLimit Records limit = ⊥
-
-abbrev pub LimitIs : Option LimitName → Option Limit → Type 0
-LimitIs None limit = limit ≡ None
-LimitIs (Some which) limit = IsLimit which limit
+abbrev pub limit_view : LimitName → Limit
+limit_view Headers = many_headers
+limit_view Payload = many_items
+limit_view Values = many_values
+limit_view Block = long_block
+limit_view Wire = full_wire
+limit_view Alter = long_document
+limit_view Records = many_records
 
 abbrev pub limit_of : ℕ → ℕ → ℕ → Option Limit
 limit_of headers payload count = first_of (when (nat_lt 256 headers) many_headers) (first_of (when (nat_lt 4096 payload) many_items) (when (nat_lt 1024 count) many_values))
 
-abbrev pub IsBeyond : LimitName → Option BlockFault → Type 0
-IsBeyond Headers fault = fault ≡ Some (beyond many_headers)
-IsBeyond Payload fault = fault ≡ Some (beyond many_items)
-IsBeyond Values fault = fault ≡ Some (beyond many_values)
-IsBeyond Block fault = ⊥
-IsBeyond Wire fault = ⊥
-IsBeyond Alter fault = ⊥
-IsBeyond Records fault = ⊥
-
 -- the fault that an answer names
 abbrev pub Tells : BlockWhy → Option BlockFault → Type 0
 Tells (why.Member name) fault = fault ≡ Some (bad_member name)
-Tells (why.Limit which) fault = IsBeyond which fault
+Tells (why.Limit which) fault = fault ≡ Some (beyond (limit_view which))
 Tells (why.IePath k) fault = fault ≡ Some (ie_path k)
 Tells (why.Overlap k) fault = fault ≡ Some (overlap k)
 Tells (why.BadHole place) fault = fault ≡ Some (bad_holes (bad_hole (place_view place)))

@@ -1,9 +1,9 @@
 // The first fault of a block.
-ghost use Rattle.std.specs.Prelude.{◌≡◌, ◌≤◌, IfOk, [], length};
+ghost use Rattle.std.specs.Prelude.{◌≡◌, ◌≤◌, IfOk, [], length, option_map};
 ghost use Rattle.std.specs.Option.{option_map_or};
 ghost use Rattle.spec_documents.specs.Hole.{places as places_of};
 ghost use Rattle.spec_messages.specs.Fault as spec;
-ghost use Rattle.block_forms.specs.Faults.{IsFault, LimitIs, later_fault, past_members, limit_of};
+ghost use Rattle.block_forms.specs.Faults.{IsFault, later_fault, limit_of, limit_view, past_members};
 
 use crate::depths::is_deep;
 use crate::overlaps::first_overlap;
@@ -54,7 +54,7 @@ pub enum BlockWhy {
 }
 
 fn limit_fault(headers: usize, items: usize, values: u32) -> Option<LimitName>
-    ensures { LimitIs result (limit_of headers items values) }
+    ensures { option_map limit_view result ≡ limit_of headers items values }
 {
     if 256 < headers {
         Some(LimitName::Headers)

@@ -9,7 +9,8 @@ use Rattle.spec_documents.proofs.PlaceLemmas.{unless_ok}
 use Rattle.spec_messages.specs.Message.{Part, clear, hole_part, Header, Head, request, response, Message, head_of, headers_of, body_depth}
 use Rattle.spec_messages.specs.Policy.{result_ok}
 use Rattle.spec_messages.specs.Block.{Items, IsBlock, block_parts, block_members, block_items, members_of, body_of}
-use Rattle.spec_messages.specs.Fault.{block_fault, member_fault, limit_fault, as_fault, bad_member, beyond, many_values}
+use Rattle.spec_messages.specs.Fault.{block_fault, member_fault, limit_fault, as_fault, bad_member, beyond}
+use Rattle.spec_messages.specs.Limits.{many_values}
 use Rattle.spec_messages.proofs.BlockFaults.{first_none, fault_none, when_none}
 use Rattle.spec_messages.proofs.BlockDepth.{block_items_low}
 use Rattle.spec_messages.proofs.BodyLemmas.{body-unique}

@@ -2,7 +2,8 @@
 use Rattle.std.proofs.Common.{◌≡◌, ℕ, ◌<◌, Bool, true, false, Option, refl, ap}
 use Rattle.std.proofs.lemmas.Bool.{lt-ltb}
 use Rattle.spec_documents.specs.Tree.{Tree}
-use Rattle.spec_messages.specs.Fault.{BlockFault, many_headers, many_items, many_values, bad_member, beyond, first_of, when, as_fault, member_fault, block_fault}
+use Rattle.spec_messages.specs.Limits.{many_headers, many_items, many_values}
+use Rattle.spec_messages.specs.Fault.{BlockFault, bad_member, beyond, first_of, when, as_fault, member_fault, block_fault}
 
 -- what follows a limit that is passed is never asked
 passed : (a b : Bool) (rest other : Option BlockFault) → first_of (as_fault beyond (first_of (when a many_headers) (first_of (when b many_items) (when true many_values)))) rest ≡ first_of (as_fault beyond (first_of (when a many_headers) (first_of (when b many_items) (when true many_values)))) other

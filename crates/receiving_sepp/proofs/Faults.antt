@@ -2,9 +2,7 @@
 use Rattle.std.proofs.Common.{◌≡◌, ℕ, Option, Some, Err, refl}
 use Rattle.spec_documents.specs.Tree.{Tree}
 use Rattle.spec_messages.specs.Fault.{BlockFault, block_fault}
-use Rattle.block_forms.specs.Faults.{Tells, IsBeyond}
-use Rattle.block_forms.specs.declared.fault.LimitName.{LimitName}
-use Rattle.block_forms.specs.declared.fault.LimitName.TheVariants.{Headers, Payload, Values, Block, Wire, Alter, Records}
+use Rattle.block_forms.specs.Faults.{Tells}
 use Rattle.block_forms.specs.declared.fault.BlockWhy.{BlockWhy}
 use Rattle.block_forms.specs.declared.fault.BlockWhy.TheVariants as why
 use Rattle.spec_exchange.specs.Chain.{or_refused}
@@ -12,18 +10,9 @@ use Rattle.spec_exchange.specs.Rebuilding.{read_block, no_block}
 use Rattle.spec_exchange.specs.ReceivingRefusals.{Reconstruction}
 use Rattle.receiving_sepp.specs.Views.{fault_view}
 
-limit_is : (l : LimitName) (fault : Option BlockFault) → IsBeyond l fault → fault ≡ Some (fault_view (why.Limit l))
-limit_is Headers fault h = h
-limit_is Payload fault h = h
-limit_is Values fault h = h
-limit_is Block fault h = absurd h
-limit_is Wire fault h = absurd h
-limit_is Alter fault h = absurd h
-limit_is Records fault h = absurd h
-
 fault_is : (w : BlockWhy) (fault : Option BlockFault) → Tells w fault → fault ≡ Some (fault_view w)
 fault_is (why.Member name) fault h = h
-fault_is (why.Limit l) fault h = limit_is l fault h
+fault_is (why.Limit l) fault h = h
 fault_is (why.IePath k) fault h = h
 fault_is (why.Overlap k) fault h = h
 fault_is (why.BadHole place) fault h = h

@@ -1,23 +1,18 @@
 -- What the program's values are, in the words of the definitions.
-use Rattle.std.specs.Prelude.{List, [], unwrap_or}
-use Rattle.spec_documents.specs.Tree.{Tree}
 use Rattle.spec_documents.specs.Hole.{bad_hole, twice, missing}
 use Rattle.spec_messages.specs.Fault as block
 use Rattle.spec_messages.specs.Rebuilt.{not_text, too_deep}
-use Rattle.http_message.specs.Reading.{kind_view, message_view}
+use Rattle.http_message.specs.Reading.{message_view}
 use Rattle.policy_tables.specs.View.{address_view}
 use Rattle.enc_index.specs.Places.{place_view}
-use Rattle.block_forms.specs.declared.fault.LimitName.{LimitName}
-use Rattle.block_forms.specs.declared.fault.LimitName.TheVariants as limits
+use Rattle.block_forms.specs.Faults.{limit_view}
 use Rattle.block_forms.specs.declared.fault.BlockWhy.{BlockWhy}
 use Rattle.block_forms.specs.declared.fault.BlockWhy.TheVariants as blocks
-use Rattle.prins_document.specs.Form.{entries_of}
+use Rattle.jwe_flat.specs.View.{misfit_view}
 use Rattle.context_records.specs.View.{context_view, key_set_view}
-use Rattle.spec_exchange.specs.Received as forms
 use Rattle.spec_exchange.specs.FirstFailed as stages
 use Rattle.spec_exchange.specs.Rebuilding as rebuilding
 use Rattle.spec_exchange.specs.ReceivingRefusals as spec
-use Rattle.receiving_sepp.specs.declared.received.Received.{Received}
 use Rattle.receiving_sepp.specs.declared.opening.KeyedContext.{KeyedContext}
 use Rattle.receiving_sepp.specs.declared.rebuilding.Rebuilt.{Rebuilt}
 use Rattle.receiving_sepp.specs.declared.refused.RebuildWhy.{RebuildWhy}
@@ -27,19 +22,9 @@ use Rattle.receiving_sepp.specs.declared.refused.Refused.TheVariants as refused
 
 -- ---- refusals
 
--- a block that is read passes one of the first three limits
-abbrev pub block_limit_view : LimitName → block.Limit
-block_limit_view limits.Headers = block.many_headers
-block_limit_view limits.Payload = block.many_items
-block_limit_view limits.Values = block.many_values
-block_limit_view limits.Block = block.many_values
-block_limit_view limits.Wire = block.many_values
-block_limit_view limits.Alter = block.many_values
-block_limit_view limits.Records = block.many_values
-
 abbrev pub fault_view : BlockWhy → block.BlockFault
 fault_view (blocks.Member name) = block.bad_member name
-fault_view (blocks.Limit which) = block.beyond (block_limit_view which)
+fault_view (blocks.Limit which) = block.beyond (limit_view which)
 fault_view (blocks.IePath k) = block.ie_path k
 fault_view (blocks.Overlap k) = block.overlap k
 fault_view (blocks.BadHole place) = block.bad_holes (bad_hole (place_view place))
@@ -58,7 +43,7 @@ refused_view (refused.Form member) = spec.Form member
 refused_view refused.NotBuilt = spec.NotBuilt
 refused_view refused.ContextNotFound = spec.NoContext
 refused_view refused.NoKeys = spec.NoReceiveKeys
-refused_view (refused.Cipher why) = spec.Cipher why
+refused_view (refused.Cipher why) = spec.Cipher (misfit_view why)
 refused_view refused.Integrity = spec.Integrity
 refused_view (refused.Replay number) = spec.Replay number
 refused_view (refused.Reconstruction why) = spec.Reconstruction (why_view why)
@@ -66,20 +51,6 @@ refused_view (refused.Policy address) = spec.InClear (address_view address)
 refused_view refused.Limit = spec.NoRoom
 
 -- ---- what the stages give
-
-abbrev pub parts_view : Received → List Tree → forms.Received
-parts_view r entries = record {
-  jwe = r.wire.jwe;
-  block = r.wire.block;
-  context = r.context.value;
-  message = r.message.value;
-  authorized = r.wire.meta.ipx;
-  kind = kind_view r.wire.kind;
-  entries = entries;
-}
-
-abbrev pub received_view : Tree → Received → forms.Received
-received_view t r = parts_view r (unwrap_or (entries_of t) [])
 
 abbrev pub keyed_view : KeyedContext → stages.KeyedContext
 keyed_view k = record { context = context_view k.context.now; key_set = key_set_view k.keys.now }

@@ -6,7 +6,7 @@ ghost use Rattle.receiving_sepp.specs.Outcome.{ChecksOut};
 use crate::faults::CheckFault;
 use crate::opening::{KeyedContext, check_first, keyed_context, open};
 use crate::rebuilding::{check_sealed, rebuild_message};
-use crate::received::{Received, read_received};
+use crate::received::read_received;
 use context_calls::{mapping_for, receive_key};
 use context_store::Store;
 use http_message::{Kind, Message};
@@ -35,17 +35,14 @@ pub(crate) fn check(
     ensures checks { ChecksOut store.now.records node.now document.now result }
     ensures named { IfOk result (λ _. IsTrue (is_node_name node.now)) }
 {
-    let Received {
-        wire,
-        context: id,
-        message,
-    } = read_received(alloc, document)?;
     let WireDoc {
         jwe,
         block,
+        context: id,
+        message,
         kind,
         ..
-    } = wire;
+    } = read_received(alloc, document)?;
     let KeyedContext { context, keys } = keyed_context(store, node, id)?;
     let plain = open(alloc, &jwe, receive_key(context.suite, keys, kind))?;
     check_first(store, node, id, kind, message)?;

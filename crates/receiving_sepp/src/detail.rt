@@ -4,7 +4,10 @@ ghost use Rattle.std.specs.Fmt.{decimal};
 ghost use Rattle.enc_index.specs.Places.{place_view};
 ghost use Rattle.spec_exchange.specs.RebuildTexts as texts;
 ghost use Rattle.spec_exchange.specs.ReceivingRefusals as spec;
-ghost use Rattle.receiving_sepp.specs.Views.{block_limit_view, fault_view, refused_view, why_view};
+ghost use Rattle.jwe_flat.specs.View.{misfit_view};
+ghost use Rattle.spec_messages.specs.Limits.{limit_name as name_of_limit};
+ghost use Rattle.block_forms.specs.Faults.{limit_view};
+ghost use Rattle.receiving_sepp.specs.Views.{fault_view, refused_view, why_view};
 
 use crate::refused::{RebuildWhy, Refused};
 use block_forms::{BlockWhy, LimitName};
@@ -16,7 +19,7 @@ use policy_tables::address_text;
 use std::alloc::Global;
 
 fn cipher_name(why: CipherWhy) -> &'static str
-    ensures { result.now ≡ spec.cipher_name why }
+    ensures { result.now ≡ spec.cipher_name (misfit_view why) }
 {
     match why {
         CipherWhy::Alg => "alg",
@@ -26,14 +29,17 @@ fn cipher_name(why: CipherWhy) -> &'static str
     }
 }
 
-// A block that is read passes one of three limits.
-fn block_limit_name(limit: LimitName) -> &'static str
-    ensures { result.now ≡ texts.block_limit_name (block_limit_view limit) }
+fn limit_name(limit: LimitName) -> &'static str
+    ensures { result.now ≡ name_of_limit (limit_view limit) }
 {
     match limit {
         LimitName::Headers => "headers",
         LimitName::Payload => "payload",
-        _ => "values",
+        LimitName::Values => "values",
+        LimitName::Block => "block",
+        LimitName::Wire => "wire",
+        LimitName::Alter => "alter",
+        LimitName::Records => "records",
     }
 }
 
@@ -73,7 +79,7 @@ fn block_text(alloc: Global, why: &BlockWhy) -> Result<Text, NoMemory>
 {
     match why {
         BlockWhy::Member(name) => text_after(alloc, "MEMBER ", name.as_str()),
-        BlockWhy::Limit(limit) => text_after(alloc, "LIMIT ", block_limit_name(*limit)),
+        BlockWhy::Limit(limit) => text_after(alloc, "LIMIT ", limit_name(*limit)),
         BlockWhy::IePath(number) => numbered(alloc, "IE_PATH ", *number),
         BlockWhy::Overlap(number) => numbered(alloc, "OVERLAP ", *number),
         BlockWhy::BadHole(place) => bad_hole_text(alloc, place),

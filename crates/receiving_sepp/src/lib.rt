@@ -16,6 +16,3 @@ pub use accepting::accept;
 pub use delivery::Delivered;
 pub use faults::AcceptFault;
 pub use refused::{RebuildWhy, Refused};
-
-#[cfg(test)]
-mod tests;

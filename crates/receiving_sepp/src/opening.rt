@@ -5,6 +5,7 @@ ghost use Rattle.spec_documents.specs.Text.{is_node_name};
 ghost use Rattle.spec_messages.specs.Message.{wanted};
 ghost use Rattle.spec_records.specs.Records as records;
 ghost use Rattle.http_message.specs.Reading.{kind_view};
+ghost use Rattle.jwe_flat.specs.View.{content_key_view, jwe_view};
 ghost use Rattle.context_records.specs.View.{context_view, key_set_view, suite_view};
 ghost use Rattle.spec_exchange.specs.FirstFailed as spec;
 ghost use Rattle.spec_exchange.specs.ReceivingRefusals as refusals;
@@ -19,7 +20,6 @@ use context_store::Store;
 use http_message::Kind;
 use jwe_flat::{ContentKey, FlatJwe, JweOpen, open_jwe};
 use n32_values::{Bytes, Hex64, Text};
-use spec_exchange::readings::jwes_are_computed;
 use std::alloc::Global;
 
 // An open context, and its keys.
@@ -68,9 +68,8 @@ pub(crate) fn keyed_context<'a>(
 /// The plaintext of a JWE whose header is right and whose tag recomputes.
 #[tactic(auto, unfolding(spec_exchange::specs::Chain::chains))]
 pub(crate) fn open(alloc: Global, jwe: &FlatJwe, key: &ContentKey) -> Result<Bytes, CheckFault>
-    ensures { Gives told (λ b. b) result (spec.opens key.now jwe.now) }
+    ensures { Gives told (λ b. b) result (spec.opens (content_key_view key.now) (jwe_view jwe.now)) }
 {
-    jwes_are_computed();
     match open_jwe(alloc, jwe, key) {
         Ok(plain) => Ok(plain),
         Err(JweOpen::Cipher(why)) => Err(CheckFault::Refused(Refused::Cipher(why))),

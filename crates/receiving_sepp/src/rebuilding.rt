@@ -9,6 +9,7 @@ ghost use Rattle.spec_exchange.specs.Chain.{or_refused};
 ghost use Rattle.spec_exchange.specs.FirstFailed.{is_sealed, rebuilt};
 ghost use Rattle.spec_exchange.specs.Rebuilding as spec;
 ghost use Rattle.spec_exchange.specs.ReceivingRefusals as refusals;
+ghost use Rattle.spec_sealing.specs.Plaintext.{values_of};
 ghost use Rattle.receiving_sepp.specs.Refusing.{told};
 ghost use Rattle.receiving_sepp.specs.Views.{rebuilt_view};
 
@@ -19,8 +20,8 @@ use http_message::Message;
 use message_rebuilding::{RebuildFault, clear_message, fill_message, values_are_few};
 use n32_values::{Doc, NoMemory, NodeList};
 use policy_tables::Policy;
+use prins_document::{ValuesRead, read_values};
 use reformat_blocks::Block;
-use sealed_values::{ValuesRead, read_values};
 use sealing_check::first_in_clear;
 use std::alloc::Global;
 
@@ -33,7 +34,7 @@ pub(crate) struct Rebuilt {
 
 // The values of a plaintext.
 fn values_of(alloc: Global, plain: &[u8]) -> Result<NodeList, CheckFault>
-    ensures { Gives told (λ vs. vs) result (wanted (spec.values_of plain.now) (refusals.Reconstruction spec.no_values)) }
+    ensures { Gives told (λ vs. vs) result (wanted (values_of plain.now) (refusals.Reconstruction spec.no_values)) }
 {
     match read_values(alloc, plain) {
         Ok(values) => Ok(values),

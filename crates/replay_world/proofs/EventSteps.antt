@@ -8,7 +8,7 @@ use Rattle.spec_messages.specs.Policy.{Policy}
 use Rattle.spec_records.specs.Records.{KeySet, Context, Record, Opened, Keyed, record_limit, used, open_context, keys, keys_fit}
 use Rattle.spec_records.specs.RecordDocument.{is_well_named}
 use Rattle.spec_exchange.specs.Chain.{◌>>=◌, unless}
-use Rattle.spec_exchange.specs.Limits.{many_records}
+use Rattle.spec_messages.specs.Limits.{many_records}
 use Rattle.spec_exchange.specs.Outside.{Choice, Read}
 use Rattle.spec_exchange.specs.Calls.{Asks, accepted, sends}
 use Rattle.spec_script.specs.Refusals.{Refusal, NodeUnknown, NodeExists, WireUnknown, Beyond, KeysTwice, ContextNotFound, BadEvent, ContextUsed}

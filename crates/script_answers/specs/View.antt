@@ -1,5 +1,6 @@
 -- The refusal of the definitions that a value of the program is.
 use Rattle.http_message.specs.Reading.{member_view}
+use Rattle.block_forms.specs.Faults.{limit_view}
 use Rattle.spec_exchange.specs.Outside as outside
 use Rattle.spec_script.specs.Refusals as spec
 use Rattle.sending_sepp.specs.Sending as sending
@@ -14,7 +15,7 @@ refusal_view (refusals.Event name) = spec.BadEvent name.now
 refusal_view refusals.NodeUnknown = spec.NodeUnknown
 refusal_view refusals.NodeExists = spec.NodeExists
 refusal_view refusals.WireUnknown = spec.WireUnknown
-refusal_view (refusals.Limit which) = spec.Beyond (sending.limit_view which)
+refusal_view (refusals.Limit which) = spec.Beyond (limit_view which)
 refusal_view refusals.KeysTwice = spec.KeysTwice
 refusal_view refusals.ContextNotFound = spec.ContextNotFound
 refusal_view (refusals.Message member) = spec.BadMessage (member_view member)

@@ -9,10 +9,10 @@ use Rattle.reformat_blocks.specs.Splitting.{Parts, limited, within}
 use Rattle.block_forms.specs.declared.fault.LimitName.{LimitName}
 use Rattle.block_forms.specs.declared.fault.LimitName.TheVariants as limits
 use Rattle.spec_exchange.specs.Chain.{none_of}
-use Rattle.spec_exchange.specs.Limits.{many_headers, many_items, many_values, long_block}
+use Rattle.spec_messages.specs.Limits.{many_headers, many_items, many_values, long_block}
 use Rattle.spec_exchange.specs.SendingRefusals.{Beyond}
 use Rattle.spec_exchange.specs.Calls.{split_limit}
-use Rattle.sending_sepp.specs.Sending.{limit_view}
+use Rattle.block_forms.specs.Faults.{limit_view}
 
 more : (n m : ℕ) → nat_lt m n ≡ not (nat_le n m)
 more n m = by (nat_le n m) refl

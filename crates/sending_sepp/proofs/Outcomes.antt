@@ -10,7 +10,7 @@ use Rattle.context_store.specs.declared.faults.OpenFault.{OpenFault}
 use Rattle.context_store.specs.declared.faults.OpenFault.TheVariants as opening
 use Rattle.context_calls.specs.Changes.{with_room}
 use Rattle.context_calls.proofs.Calls as calls
-use Rattle.spec_exchange.specs.Limits.{many_records}
+use Rattle.spec_messages.specs.Limits.{many_records}
 use Rattle.spec_exchange.specs.SendingRefusals.{Beyond}
 use Rattle.spec_exchange.specs.Calls.{Sealed, Asks, sent_record, protected}
 use Rattle.sending_sepp.specs.Sending as sending

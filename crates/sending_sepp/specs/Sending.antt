@@ -1,10 +1,8 @@
 -- What the program answers in place of a document, in the words of the definitions.
 use Rattle.std.specs.Prelude.{Option, Some, None}
-use Rattle.block_forms.specs.declared.fault.LimitName.{LimitName}
-use Rattle.block_forms.specs.declared.fault.LimitName.TheVariants as limits
+use Rattle.block_forms.specs.Faults.{limit_view}
 use Rattle.context_store.specs.declared.faults.OpenFault.{OpenFault}
 use Rattle.context_store.specs.declared.faults.OpenFault.TheVariants as opening
-use Rattle.spec_exchange.specs.Limits.{Limit, many_headers, many_items, many_values, long_block, full_wire, long_document, many_records}
 use Rattle.spec_exchange.specs.SendingRefusals as spec
 use Rattle.spec_exchange.specs.Outside.{Cause, Own, Outside}
 use Rattle.spec_exchange.specs.Outside as outside
@@ -14,15 +12,6 @@ use Rattle.sending_sepp.specs.declared.fault.CheckFault.{CheckFault}
 use Rattle.sending_sepp.specs.declared.fault.CheckFault.TheVariants as checking
 use Rattle.sending_sepp.specs.declared.fault.ProtectFault.{ProtectFault}
 use Rattle.sending_sepp.specs.declared.fault.ProtectFault.TheVariants as protecting
-
-abbrev pub limit_view : LimitName → Limit
-limit_view limits.Headers = many_headers
-limit_view limits.Payload = many_items
-limit_view limits.Values = many_values
-limit_view limits.Block = long_block
-limit_view limits.Wire = full_wire
-limit_view limits.Alter = long_document
-limit_view limits.Records = many_records
 
 abbrev pub refusal_view : SendFault → spec.Refusal
 refusal_view faults.ContextNotFound = spec.ContextNotFound

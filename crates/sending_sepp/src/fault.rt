@@ -1,8 +1,9 @@
 // Why a message isn't sent, and what stops a call: a refusal, a fault of the outside, or want of memory.
 ghost use Rattle.std.specs.Prelude.{◌≡◌, IfOk};
-ghost use Rattle.spec_exchange.specs.Limits as limits;
+ghost use Rattle.spec_messages.specs.Limits as limits;
 ghost use Rattle.spec_exchange.specs.SendingRefusals as spec;
-ghost use Rattle.sending_sepp.specs.Sending.{limit_view, refusal_view};
+ghost use Rattle.block_forms.specs.Faults.{limit_view};
+ghost use Rattle.sending_sepp.specs.Sending.{refusal_view};
 
 use block_forms::LimitName;
 use context_store::OpenFault;

@@ -12,6 +12,3 @@ mod splitting;
 
 pub use fault::{ProtectFault, SendFault, limit_name};
 pub use sending::protect;
-
-#[cfg(test)]
-mod tests;

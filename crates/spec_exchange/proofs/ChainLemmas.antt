@@ -5,7 +5,7 @@ use Rattle.spec_documents.specs.Tree.{Tree}
 use Rattle.spec_messages.specs.Message.{Message, wanted}
 use Rattle.spec_records.specs.Records.{Record, record_limit, delivered_at, next_seq}
 use Rattle.spec_exchange.specs.Chain.{◌>>=◌, unless, none_of, or_refused}
-use Rattle.spec_exchange.specs.Received.{Received, received}
+use Rattle.spec_sealing.specs.Received.{Received, received}
 use Rattle.spec_exchange.specs.ReceivingRefusals.{Form}
 use Rattle.spec_exchange.specs.ReceivingRefusals as receiving
 use Rattle.spec_exchange.specs.SendingRefusals as sending

@@ -10,8 +10,8 @@ use Rattle.spec_messages.specs.Message.{Message, Kind, wanted}
 use Rattle.spec_records.specs.Records.{Record, Context, is_of, own, is_closed, opened_context, first_of, record_limit, open_context, keys, keys_behind, mapping_delivered, answered, next_seq, delivered_at, was_delivered, is_delivery}
 use Rattle.spec_records.proofs.RecordLemmas.{own-append, own-append_other, delivered_at-is_some}
 use Rattle.spec_exchange.specs.Chain.{◌>>=◌, unless, none_of, or_refused}
-use Rattle.spec_exchange.specs.Received.{Received, received}
-use Rattle.spec_exchange.specs.Limits.{many_records}
+use Rattle.spec_sealing.specs.Received.{Received, received}
+use Rattle.spec_messages.specs.Limits.{many_records}
 use Rattle.spec_exchange.specs.ReceivingRefusals.{Refusal, Form, NotBuilt, NoContext, NoReceiveKeys, Replay, NoRoom}
 use Rattle.spec_exchange.specs.SendingRefusals.{ContextNotFound, NoKeys, NoRequest, Answered, SeqSpent, Beyond}
 use Rattle.spec_exchange.specs.SendingRefusals as sending

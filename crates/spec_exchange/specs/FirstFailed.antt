@@ -3,13 +3,13 @@ use Rattle.std.specs.Prelude.{ℕ, List, length, Bool, false, true, ◌||◌, na
 use Rattle.spec_documents.specs.Tree.{Tree}
 use Rattle.spec_messages.specs.Message.{Message, Kind, of_request, of_response, wanted}
 use Rattle.spec_messages.specs.Policy.{Policy}
-use Rattle.jwe_flat.specs.declared.jwe.FlatJwe.{FlatJwe}
-use Rattle.jwe_flat.specs.declared.key.ContentKey.{ContentKey}
 use Rattle.spec_records.specs.Records.{OneKey, KeySet, Context, Record, record_limit, open_context, keys, delivered_at}
 use Rattle.spec_exchange.specs.Chain.{◌>>=◌, unless, none_of, or_refused}
-use Rattle.spec_exchange.specs.Jwe.{content_key, misfit, opened}
-use Rattle.spec_exchange.specs.Received.{Received, received}
-use Rattle.spec_exchange.specs.Rebuilding.{no_values, no_block, no_fill, values_of, read_block, filled_with, mapping_of_head, in_clear}
+use Rattle.spec_sealing.specs.Suites.{ContentKey, content_key}
+use Rattle.spec_sealing.specs.Jwe.{Jwe, misfit, opened}
+use Rattle.spec_sealing.specs.Plaintext.{values_of}
+use Rattle.spec_sealing.specs.Received.{Received, received}
+use Rattle.spec_exchange.specs.Rebuilding.{no_values, no_block, no_fill, read_block, filled_with, mapping_of_head, in_clear}
 use Rattle.spec_exchange.specs.ReceivingRefusals.{Refusal, Form, NotBuilt, NoContext, NoReceiveKeys, Cipher, Integrity, Replay, Reconstruction, InClear, NoRoom}
 
 -- what is delivered, with what its record needs
@@ -61,7 +61,7 @@ keyed_context records node id = do
 -- ---- the header and the tag
 
 -- the plaintext of a JWE whose header is of the suite and whose tag recomputes
-abbrev pub opens : ContentKey → FlatJwe → Result (List ℕ) Refusal
+abbrev pub opens : ContentKey → Jwe → Result (List ℕ) Refusal
 opens key w = do
   _ ← none_of Cipher (misfit key w)
   wanted (opened key w) Integrity

@@ -1,9 +1,6 @@
-pub mod Chain
-pub mod Decoding
-pub mod Jwe
-pub mod Received
+pub use Rattle.spec_documents.specs.Chain
+pub mod Nonce
 pub mod Rebuilding
-pub mod Limits
 pub mod Telling
 pub mod RebuildTexts
 pub mod ReceivingRefusals

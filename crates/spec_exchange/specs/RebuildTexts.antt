@@ -3,14 +3,10 @@ use Rattle.std.specs.Prelude.{ℕ, List, [], ◌∷◌, ◌++◌, Option, Some, 
 use Rattle.std.specs.Fmt.{decimal}
 use Rattle.spec_documents.specs.Place.{pointer_text}
 use Rattle.spec_documents.specs.Hole.{HolePlace, HoleFault, bad_hole, twice, missing}
+use Rattle.spec_messages.specs.Limits.{limit_name}
 use Rattle.spec_messages.specs.Fault as block
 use Rattle.spec_messages.specs.Rebuilt.{FillFault, not_text, too_deep}
 use Rattle.spec_exchange.specs.Rebuilding.{RebuildWhy, no_values, no_block, no_fill}
-
-abbrev pub block_limit_name : block.Limit → List ℕ
-block_limit_name block.many_headers = codes "headers"
-block_limit_name block.many_items = codes "payload"
-block_limit_name block.many_values = codes "values"
 
 abbrev pub part_text : Option ℕ → List ℕ
 part_text None = []
@@ -27,7 +23,7 @@ hole_text (missing n) = codes "MISSING " ++ decimal n
 
 abbrev pub block_text : block.BlockFault → List ℕ
 block_text (block.bad_member k) = codes "MEMBER " ++ k
-block_text (block.beyond l) = codes "LIMIT " ++ block_limit_name l
+block_text (block.beyond l) = codes "LIMIT " ++ limit_name l
 block_text (block.ie_path k) = codes "IE_PATH " ++ decimal k
 block_text (block.overlap k) = codes "OVERLAP " ++ decimal k
 block_text (block.bad_holes why) = hole_text why

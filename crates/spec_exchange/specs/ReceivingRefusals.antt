@@ -3,9 +3,8 @@ use Rattle.std.specs.Prelude.{ℕ, List, codes}
 use Rattle.std.specs.Fmt.{decimal}
 use Rattle.spec_messages.specs.Policy.{Address}
 use Rattle.spec_messages.specs.AddressText.{address_text}
-use Rattle.jwe_flat.specs.declared.opening.CipherWhy.{CipherWhy}
-use Rattle.jwe_flat.specs.declared.opening.CipherWhy.TheVariants.{Alg, Enc, Zip, Crit}
-use Rattle.spec_exchange.specs.Limits.{many_records, limit_name}
+use Rattle.spec_messages.specs.Limits.{many_records, limit_name}
+use Rattle.spec_sealing.specs.Header.{Misfit, Alg, Enc, Zip, Crit}
 use Rattle.spec_exchange.specs.Rebuilding.{RebuildWhy}
 use Rattle.spec_exchange.specs.RebuildTexts.{rebuild_text}
 use Rattle.spec_exchange.specs.Telling.{Telling, bare, detailed}
@@ -20,7 +19,7 @@ pub data Refusal : Type 0 where
   -- the context has no keys
   NoReceiveKeys : Refusal
   -- the JWE isn't of this profile and the context's suite
-  Cipher : (why : CipherWhy) → Refusal
+  Cipher : (why : Misfit) → Refusal
   -- the tag isn't the one that recomputes
   Integrity : Refusal
   -- the message was delivered before, as the record of this number says
@@ -32,7 +31,7 @@ pub data Refusal : Type 0 where
   -- no record more may be held
   NoRoom : Refusal
 
-abbrev pub cipher_name : CipherWhy → List ℕ
+abbrev pub cipher_name : Misfit → List ℕ
 cipher_name Alg = codes "alg"
 cipher_name Enc = codes "enc"
 cipher_name Zip = codes "zip"

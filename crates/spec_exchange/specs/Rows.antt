@@ -9,10 +9,9 @@ use Rattle.spec_messages.specs.Rows.{element}
 use Rattle.spec_records.specs.Records.{A128Gcm, OneKey, KeySet, Context, Record, Opened, Keyed, Sent, Delivered}
 use Rattle.spec_records.specs.Records as records
 use Rattle.spec_records.specs.RecordRows.{sixteen_bytes}
-use Rattle.jwe_flat.specs.declared.jwe.FlatJwe.{FlatJwe}
-use Rattle.jwe_flat.specs.declared.key.ContentKey.{ContentKey}
-use Rattle.spec_exchange.specs.Jwe as jwe
-use Rattle.spec_exchange.specs.Received.{Received}
+use Rattle.spec_sealing.specs.Suites.{ContentKey}
+use Rattle.spec_sealing.specs.Jwe.{Jwe, misfit, opened}
+use Rattle.spec_sealing.specs.Received.{Received}
 use Rattle.spec_exchange.specs.ReceivingRefusals.{Refusal}
 use Rattle.spec_exchange.specs.FirstFailed.{Delivery, KeyedContext, key_for, first_failed_of}
 use Rattle.spec_exchange.specs.Calls.{metadata_for}
@@ -85,10 +84,10 @@ abbrev pub key_b : ContentKey
 key_b = key_for of_request held_b
 
 -- request 3 of A
-abbrev pub received_with : FlatJwe → (block : Tree) → (entries : List Tree) → Received
+abbrev pub received_with : Jwe → (block : Tree) → (entries : List Tree) → Received
 received_with w block entries = record { jwe = w; block = block; context = 177; message = 3; authorized = codes "ipx-a"; kind = of_request; entries = entries }
 
-abbrev pub told_at_b : List Record → FlatJwe → (block : Tree) → Result Delivery Refusal
+abbrev pub told_at_b : List Record → Jwe → (block : Tree) → Result Delivery Refusal
 told_at_b rs w block = first_failed_of rs (codes "B") (received_with w block [])
 
 -- the block of the request with the subscriber hidden, and with all in clear
@@ -99,9 +98,9 @@ abbrev pub clear_block : Tree
 clear_block = block_tree (block_of slices_request (metadata_for context_a 3))
 
 -- the JWE opens to this plaintext
-pub record OpensTo (w : FlatJwe) (plain : List ℕ) : Type 0 where
-  pub fits : jwe.misfit key_b w ≡ None
-  pub opens_is : jwe.opened key_b w ≡ Some plain
+pub record OpensTo (w : Jwe) (plain : List ℕ) : Type 0 where
+  pub fits : misfit key_b w ≡ None
+  pub opens_is : opened key_b w ≡ Some plain
 
 -- the records under which B receives request 3 for the first time
 pub record AwaitsThird (rs : List Record) : Type 0 where

@@ -5,13 +5,9 @@ use Rattle.spec_documents.specs.Tree.{Tree, null, truth, whole, words, items, me
 use Rattle.spec_documents.specs.Place.{Pointer, is_prefix, read_pointer}
 use Rattle.spec_documents.specs.Text.{is_header_name, is_header_value}
 use Rattle.spec_documents.specs.Hole.{mark, is_marked, HoleFault, places}
+use Rattle.spec_messages.specs.Limits.{Limit, many_headers, many_items, many_values}
 use Rattle.spec_messages.specs.Message.{any_text, text_at, request_of, status_head, status_text}
 use Rattle.spec_messages.specs.Block.{Meta, RequestText, meta_tree, request_tree, header_tree, item_tree, block_parts, is_object, members_of, is_meta, open_depth}
-
-pub data Limit : Type 0 where
-  many_headers : Limit
-  many_items : Limit
-  many_values : Limit
 
 pub data BlockFault : Type 0 where
   bad_member : List ℕ → BlockFault

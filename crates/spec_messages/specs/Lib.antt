@@ -4,6 +4,7 @@ pub mod PolicyDocument
 pub mod AddressText
 pub mod Split
 pub mod Block
+pub mod Limits
 pub mod Fault
 pub mod Entry
 pub mod Rows

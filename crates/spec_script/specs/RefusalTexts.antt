@@ -2,7 +2,7 @@
 use Rattle.std.specs.Prelude.{ℕ, List, codes}
 use Rattle.std.specs.Fmt.{decimal}
 use Rattle.spec_messages.specs.Message.{Member, no_object, request_line, status_line, method, scheme, authority, path, version, query, headers}
-use Rattle.spec_exchange.specs.Limits.{limit_name}
+use Rattle.spec_messages.specs.Limits.{limit_name}
 use Rattle.spec_exchange.specs.Telling.{Telling, bare, detailed}
 use Rattle.spec_exchange.specs.ReceivingRefusals as receiving
 use Rattle.spec_exchange.specs.SendingRefusals as sending

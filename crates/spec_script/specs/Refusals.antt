@@ -1,7 +1,7 @@
 -- Why a line of a script is refused (this project's own).
 use Rattle.std.specs.Prelude.{ℕ, List}
 use Rattle.spec_messages.specs.Message.{Member}
-use Rattle.spec_exchange.specs.Limits.{Limit}
+use Rattle.spec_messages.specs.Limits.{Limit}
 use Rattle.spec_exchange.specs.ReceivingRefusals as receiving
 use Rattle.spec_exchange.specs.SendingRefusals as sending
 use Rattle.spec_exchange.specs.Outside.{Fault, Cause, Own, Outside}

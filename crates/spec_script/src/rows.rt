@@ -3,14 +3,14 @@
 ghost use Rattle.std.specs.Prelude.{◌≡◌, ◌≤◌, ◌<◌, ℕ, pos, negsuc, true, false, List, [], ◌∷◌, length, Some, None, Ok, Err, codes};
 ghost use Rattle.spec_documents.specs.Tree.{Tree, null, whole, words, items, trees};
 ghost use Rattle.spec_documents.specs.Hole as hole;
-ghost use Rattle.spec_messages.specs.Message.{method, headers};
+ghost use Rattle.spec_messages.specs.Message.{method, headers, status_line};
 ghost use Rattle.spec_messages.specs.Fault as block;
 ghost use Rattle.spec_messages.specs.Policy.{body_at};
 ghost use Rattle.spec_records.specs.Records.{Record, Opened, Keyed, record_limit, used, open_context, keys};
 ghost use Rattle.spec_records.specs.RecordRows.{context_with, keys_from, unfit_keys};
 ghost use Rattle.spec_exchange.specs.Outside.{no_fault, Journal, Keeper};
 ghost use Rattle.spec_exchange.specs.Rebuilding.{no_block};
-ghost use Rattle.spec_exchange.specs.Limits.{many_records};
+ghost use Rattle.spec_messages.specs.Limits.{many_records};
 ghost use Rattle.spec_exchange.specs.ReceivingRefusals.{Form, Replay, Reconstruction, InClear};
 ghost use Rattle.spec_exchange.specs.SendingRefusals as sending;
 ghost use Rattle.spec_script.specs.Refusals.{Syntax, OtherNumber, BadEvent, NodeUnknown, NodeExists, WireUnknown, Beyond, KeysTwice, ContextNotFound, BadMessage, DeepBody, BadPolicy, ContextUsed, NotBuilt, OfSending, OfReceiving, OfOutside};
@@ -84,7 +84,8 @@ pub fn room_rows()
 
 /// What is sent is a request that answers none.
 pub fn message_rows()
-    ensures response { (step (holding []) no_fault (Send (codes "A") 161 (named [] ((codes "statusLine", null) ∷ [])) None)).answer ≡ Refuses NotBuilt }
+    ensures response { (step (holding []) no_fault (Send (codes "A") 161 (named [] ((codes "statusLine", words (codes "201")) ∷ [])) (Some 7))).answer ≡ Refuses NotBuilt }
+    ensures status { (step (holding []) no_fault (Send (codes "A") 161 (named [] ((codes "statusLine", null) ∷ [])) None)).answer ≡ Refuses (BadMessage status_line) }
     ensures message { (step (holding []) no_fault (Send (codes "A") 161 (request_document ((codes "headers", null) ∷ [])) (Some 7))).answer ≡ Refuses (BadMessage headers) }
     ensures deep { (step (holding []) no_fault (Send (codes "A") 161 (request_document ((codes "body", nested 65) ∷ [])) (Some 7))).answer ≡ Refuses DeepBody }
     ensures answers { (step (holding []) no_fault (Send (codes "A") 161 (request_document ((codes "body", nested 64) ∷ [])) (Some 7))).answer ≡ Refuses (BadEvent (codes "answers")) }

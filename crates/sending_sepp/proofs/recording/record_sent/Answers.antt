@@ -1,6 +1,6 @@
 use Rattle.std.proofs.Common.{refl, inl, Ok, Err}
 use Rattle.block_forms.specs.declared.fault.LimitName.TheVariants as limits
-use Rattle.spec_exchange.specs.Limits.{many_records}
+use Rattle.spec_messages.specs.Limits.{many_records}
 use Rattle.spec_exchange.specs.SendingRefusals.{Beyond}
 use Rattle.context_calls.proofs.Calls.{recorded, no_room, untold}
 use Rattle.spec_exchange.specs.Calls.{sent_record}

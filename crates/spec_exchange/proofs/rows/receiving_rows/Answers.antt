@@ -8,14 +8,15 @@ use Rattle.spec_messages.specs.Fault.{bad_member}
 use Rattle.spec_messages.specs.Rebuilt.{not_text}
 use Rattle.spec_messages.specs.Split.{cleared}
 use Rattle.spec_records.specs.Records.{Record, record_limit}
-use Rattle.jwe_flat.specs.declared.jwe.FlatJwe.{FlatJwe}
+use Rattle.spec_sealing.specs.Jwe.{Jwe}
+use Rattle.spec_sealing.specs.Plaintext.{values_of}
 use Rattle.spec_exchange.specs.Chain as chain
 use Rattle.spec_exchange.specs.Chain.{unless, none_of, or_refused}
-use Rattle.spec_exchange.specs.Rebuilding.{no_values, no_block, no_fill, read_block, filled_with, values_of}
+use Rattle.spec_exchange.specs.Rebuilding.{no_values, no_block, no_fill, read_block, filled_with}
 use Rattle.spec_exchange.specs.ReceivingRefusals.{Refusal, NotBuilt, NoContext, NoReceiveKeys, Cipher, Integrity, Replay, Reconstruction, InClear, NoRoom, Form}
 use Rattle.spec_exchange.specs.FirstFailed.{Rebuilt, Delivery, keyed_context, opens, is_first, rebuilt, is_sealed, has_room, formed, delivery_at}
 use Rattle.spec_exchange.specs.Rows.{slices_policy, slices_request, context_a, keys_from, context_b, opened_both, keyed_both, after_delivery, held_b, key_b, received_with, told_at_b, hidden_block, clear_block, OpensTo, AwaitsThird}
-use Rattle.spec_exchange.proofs.FormLemmas.{bind_at, bind_err}
+use Rattle.spec_documents.proofs.Chains.{bind_at, bind_err}
 use Rattle.spec_exchange.proofs.rows.receiving_rows.Goals as goal
 
 -- ---- stages that pass
@@ -31,7 +32,7 @@ keyed_then = refl
 keyed_by : (rs : List Record) → AwaitsThird rs → keyed_context rs (codes "B") 177 ≡ Ok held_b
 keyed_by rs h = bind_at _ _ context_b (ap (λ o. wanted o NoContext) h.context_is) ∙ bind_at _ _ (keys_from 0) (ap (λ o. wanted o NoReceiveKeys) h.keys_are)
 
-opens_to : (w : FlatJwe) (plain : List ℕ) → OpensTo w plain → opens key_b w ≡ Ok plain
+opens_to : (w : Jwe) (plain : List ℕ) → OpensTo w plain → opens key_b w ≡ Ok plain
 opens_to w plain h = bind_at _ _ tt (ap (none_of (λ z. Cipher z)) h.fits) ∙ ap (λ o. wanted o Integrity) h.opens_is
 
 rebuilt_to : (block : Tree) (plain : List ℕ) (vs : List Tree) (holed content : Message) → values_of plain ≡ Some vs → read_block block (length vs) ≡ Ok holed → filled_with vs holed ≡ Ok content → rebuilt block plain ≡ Ok (record { holed = holed; content = content })
@@ -57,7 +58,7 @@ full rs le = ap (λ b. unless b NoRoom) (le-leb record_limit (length rs) le)
 -- ---- a stage that refuses
 
 -- the values, the block or its fill
-unrebuilt : (w : FlatJwe) (block : Tree) (plain : List ℕ) (e : Refusal) → OpensTo w plain → rebuilt block plain ≡ Err e → told_at_b (keyed_both 0) w block ≡ Err e
+unrebuilt : (w : Jwe) (block : Tree) (plain : List ℕ) (e : Refusal) → OpensTo w plain → rebuilt block plain ≡ Err e → told_at_b (keyed_both 0) w block ≡ Err e
 unrebuilt w block plain e h why = bind_at _ _ held_b keyed ∙ (bind_at _ _ plain (opens_to w plain h) ∙ (bind_at _ _ tt refl ∙ bind_err _ _ e why))
 
 pub returns-clause-form : goal.returns-clause-form
