@@ -11,23 +11,29 @@ fn is_text(found: Result<Bytes, NoMemory>, wanted: &str) -> bool {
     }
 }
 
-#[test]
-fn refusals_of_the_outside_are_told(rt: HostRuntime) {
-    for (refusal, wanted) in [
-        (
-            Refusal::Limit(LimitName::Records),
-            "{\"detail\":\"records\",\"line\":9,\"name\":\"LIMIT\",\"refused\":7}",
-        ),
-        (
-            Refusal::Journal(2),
-            "{\"detail\":\"2\",\"line\":9,\"name\":\"JOURNAL\",\"refused\":9}",
-        ),
-    ] {
-        assert!(rt; is_text(refusal_text(rt.alloc(), 9, &refusal), wanted));
-    }
+fn is_told(alloc: Global, refusal: Refusal, wanted: &str) -> bool {
+    is_text(refusal_text(alloc, 9, &refusal), wanted)
 }
 
-// The document that is told, and whether the answer is this.
+#[test]
+fn refusals_of_the_outside_are_told(rt: HostRuntime) {
+    assert!(rt;
+        is_told(
+            rt.alloc(),
+            Refusal::Limit(LimitName::Records),
+            "{\"detail\":\"records\",\"line\":9,\"name\":\"LIMIT\",\"refused\":7}",
+        )
+    );
+    assert!(rt;
+        is_told(
+            rt.alloc(),
+            Refusal::Journal(2),
+            "{\"detail\":\"2\",\"line\":9,\"name\":\"JOURNAL\",\"refused\":9}",
+        )
+    );
+}
+
+// The document that is handed back, where the answer is this.
 fn sealed(alloc: Global, document: Doc, wanted: &str) -> Option<Doc> {
     match sealed_text(alloc, 8, document, 3) {
         Ok((text, document)) if text.as_slice() == wanted.as_bytes() => Some(document),

@@ -83,18 +83,14 @@ fn read_held(alloc: Global, texts: &[&str]) -> Held {
 #[test]
 fn questions_are_answered_from_what_is_held(rt: HostRuntime) {
     let texts = [KEYED, OPENED, SENT, KEYED, DELIVERED, DELIVERED, REPLIED];
-    match read_held(rt.alloc(), &texts) {
-        Held {
-            node: Some(node),
-            store: Some(store),
-        } => check_held(&rt, &store, &node),
+    let held = read_held(rt.alloc(), &texts);
+    match (&held.store, &held.node) {
+        (Some(store), Some(node)) => check_held(&rt, store, node),
         _ => assert!(rt; false),
     }
-    match read_held(rt.alloc(), &[OPENED, KEYED, CLOSED]) {
-        Held {
-            node: Some(node),
-            store: Some(store),
-        } => check_ended(&rt, &store, &node),
+    let ended = read_held(rt.alloc(), &[OPENED, KEYED, CLOSED]);
+    match (&ended.store, &ended.node) {
+        (Some(store), Some(node)) => check_ended(&rt, store, node),
         _ => assert!(rt; false),
     }
 }

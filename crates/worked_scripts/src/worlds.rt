@@ -82,8 +82,12 @@ fn document(alloc: Global) -> Option<Doc>
     ensures { IfSome result (λ d. IsShallow d.now) }
 {
     match read_doc(alloc, DOCUMENT.as_bytes()) {
-        Ok(document) if depth(document.node()) <= 126 => Some(document),
-        _ => None,
+        Ok(document) => if depth(document.node()) > 126 {
+            None
+        } else {
+            Some(document)
+        },
+        Err(_) => None,
     }
 }
 
