@@ -1,12 +1,12 @@
 -- A line whose answer was cut, or to which memory was refused.
-use Rattle.std.proofs.Common.{◌≡◌, ◌⊎◌, ℕ, ◌+◌, ◌≤◌, true, false, cond, List, [], ◌∷◌, ◌++◌, length, refl, ap, sym, subst, ◌∙◌, arith, length-append, Some, inl, inr}
+use Rattle.std.proofs.Common.{◌≡◌, ℕ, ◌+◌, ◌≤◌, cond, List, [], ◌∷◌, ◌++◌, length, refl, ap, sym, subst, ◌∙◌, arith, length-append, Some, inl, inr}
 use Rattle.std.specs.Prelude.{Option, count_by}
 use Rattle.std.proofs.lemmas.List.Sums.{sum_by-append}
 use Rattle.n32_outside.specs.Causes.{RoseBy}
 use Rattle.script_loop.specs.Lines.{is_blank}
 use Rattle.script_loop.specs.InPart.{GivesUp, IsNext, IsCut, IsGivenUp, IsUnbegun}
 use Rattle.script_loop.specs.declared.ending.Ending.{Ending}
-use Rattle.spec_records.specs.Records.{Record, record_limit}
+use Rattle.spec_records.specs.Records.{record_limit}
 use Rattle.spec_exchange.specs.Outside.{with_put}
 use Rattle.spec_script.specs.Steps.{State, after, line_step}
 use Rattle.spec_script.specs.Output.{Answers, Numbered}
