@@ -39,7 +39,6 @@ refused_with (Some x) m k ys r all h e = cc
 pub read_refused : {A B X : Type 0} (view : X → B) (f : A → Option B) (m : Member) (done : List X) (a : A) (rest : List A) (e : MessageRead) (all : Option (List B))
     → with_front (map view done) (all_read f (a ∷ rest)) ≡ all → Refuses e (wanted (f a) m) → Refuses e (wanted all m)
 read_refused view f m done a rest (read.Member k) all h e = refused_with (f a) m (member_view k) (map view done) (all_read f rest) all h e
-read_refused view f m done a rest read.NotBuilt all h e = absurd e
 read_refused view f m done a rest read.Depth all h e = absurd e
 read_refused view f m done a rest read.NoMemory all h e = tt
 

@@ -1,5 +1,4 @@
 pub mod Reading
 pub mod Printing
 pub mod Forms
-pub mod Stage
 pub mod Kept

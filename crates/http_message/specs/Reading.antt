@@ -65,7 +65,6 @@ IsMemory e = e ≡ read.NoMemory
 
 -- what a reader gives is what the definition gives, unless memory ran out
 abbrev pub Refuses : {B : Type 0} → MessageRead → Result B spec.Member → Type 0
-Refuses read.NotBuilt wanted = ⊥
 Refuses (read.Member k) wanted = wanted ≡ Err (member_view k)
 Refuses read.Depth wanted = ⊥
 Refuses read.NoMemory wanted = ⊤
@@ -76,7 +75,6 @@ Gives view (Err e) wanted = Refuses e wanted
 
 -- the body is copied, or it is too deep
 abbrev pub RefusesBody : MessageRead → Option Tree → Type 0
-RefusesBody read.NotBuilt body = ⊥
 RefusesBody (read.Member k) body = ⊥
 RefusesBody read.Depth body = 64 < spec.body_depth body
 RefusesBody read.NoMemory body = ⊤
@@ -87,7 +85,6 @@ GivesBody (Err e) body = RefusesBody e body
 
 -- what reading a document may answer, where message_of gives wanted
 abbrev pub RefusesMessage : MessageRead → Result spec.Message spec.Member → Type 0
-RefusesMessage read.NotBuilt wanted = ⊥
 RefusesMessage (read.Member k) wanted = wanted ≡ Err (member_view k)
 RefusesMessage read.Depth wanted = (m : spec.Message) × (wanted ≡ Ok m) × (64 < spec.body_depth m.body)
 RefusesMessage read.NoMemory wanted = ⊤

@@ -10,7 +10,6 @@ mod message;
 mod protocol;
 mod read;
 mod refusal;
-mod stage;
 mod whole;
 
 pub use doc::{line_node, message_doc, put_headers};

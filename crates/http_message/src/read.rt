@@ -1,17 +1,16 @@
 // A document's tree is read into a message.
-ghost use Rattle.std.specs.Prelude.{◌≡◌, false, Err, option_map, IfOk, IsTrue};
+ghost use Rattle.std.specs.Prelude.{codes, option_map, IfOk, IsTrue};
 ghost use Rattle.n32_values.specs.View.{tree_of};
 ghost use Rattle.spec_messages.specs.Message as spec;
-ghost use Rattle.http_message.specs.Reading.{Reads, GivesBody, message_view};
-ghost use Rattle.http_message.specs.Stage as stage;
+ghost use Rattle.http_message.specs.Reading.{Gives, Reads, GivesBody, message_view};
+ghost use Rattle.spec_documents.specs.Tree.{get_member};
 
 use crate::form::Form;
 use crate::headers::read_headers;
 use crate::line::read_head;
 use crate::message::Message;
 use crate::refusal::{MessageMember, MessageRead};
-use crate::stage::is_built;
-use n32_values::{Doc, Node, copy_doc, depth};
+use n32_values::{Doc, Node, NodeMap, copy_doc, depth};
 use std::alloc::Global;
 
 // The body, which nests at most 64 deep.
@@ -30,6 +29,16 @@ fn read_body(alloc: Global, node: Option<&Node>) -> Result<Option<Doc>, MessageR
     }
 }
 
+// A request line that is there is an object, also beside a status line.
+fn check_line_form(map: &NodeMap) -> Result<(), MessageRead>
+    ensures { Gives (λ u. u) result (spec.line_form (get_member (codes "requestLine") map.now)) }
+{
+    match map.get("requestLine") {
+        None | Some(Node::Members(_)) => Ok(()),
+        Some(_) => Err(MessageRead::Member(MessageMember::RequestLine)),
+    }
+}
+
 #[tactic(auto, unfolding(crate::specs::Forms::parts_of))]
 fn read_parts(alloc: Global, node: &Node) -> Result<Message, MessageRead>
     ensures { Reads result (spec.message_of (tree_of node.now)) }
@@ -37,6 +46,7 @@ fn read_parts(alloc: Global, node: &Node) -> Result<Message, MessageRead>
     let Node::Members(map) = node else {
         return Err(MessageRead::Member(MessageMember::Whole));
     };
+    check_line_form(map)?;
     let head = read_head(alloc, Form::Plain, map)?;
     let headers = read_headers(alloc, Form::Plain, map.get("headers"))?;
     let body = read_body(alloc, map.get("body"))?;
@@ -47,16 +57,12 @@ fn read_parts(alloc: Global, node: &Node) -> Result<Message, MessageRead>
 /// `{"statusLine":"201","headers":[..],"body":..}`. Other members are ignored, also inside the line
 /// and the headers. What is read is whole.
 ///
-/// `NotBuilt` comes first, and exactly where the document is an object with a `statusLine`. Then
-/// comes the first member that is wrong, in the order of `MessageMember`, and then `Depth`, where
-/// all members are right and the body nests deeper than 64.
+/// The first member that is wrong is named, in the order of `MessageMember`; of two lines that is
+/// `statusLine`, unless `requestLine` is no object. `Depth` comes where all members are right and
+/// the body nests deeper than 64.
 pub fn read_message(alloc: Global, node: &Node) -> Result<Message, MessageRead>
-    ensures not_built { stage.is_built (tree_of node.now) ≡ false → result ≡ Err MessageRead.NotBuilt }
-    ensures value { IsTrue (stage.is_built (tree_of node.now)) → Reads result (spec.message_of (tree_of node.now)) }
+    ensures value { Reads result (spec.message_of (tree_of node.now)) }
     ensures whole { IfOk result (λ m. IsTrue (spec.is_whole (message_view m))) }
 {
-    if !is_built(node) {
-        return Err(MessageRead::NotBuilt);
-    }
     read_parts(alloc, node)
 }

@@ -16,7 +16,8 @@ pub enum MessageMember {
     Whole,
     /// `requestLine` is no object, or neither line is there.
     RequestLine,
-    /// `statusLine` isn't a text of three digits from 100 to 999, or both lines are there.
+    /// `statusLine` isn't a text of three digits from 100 to 999, or both lines are there, of which
+    /// `requestLine` is an object.
     StatusLine,
     /// `method` is no token of 1 to 15 bytes (RFC 9110, section 9).
     Method,
@@ -38,9 +39,6 @@ pub enum MessageMember {
 /// Why a document isn't read to a message.
 #[derive(Clone, Copy, Debug, PartialEq, Eq, Drop, Error)]
 pub enum MessageRead {
-    /// No message is read from such a document yet.
-    #[error("such a document is not read yet")]
-    NotBuilt,
     /// The first member that is wrong.
     #[error("the first wrong member is {0:?}")]
     Member(MessageMember),

@@ -76,10 +76,13 @@ fn other_faults_are_named(rt: HostRuntime) -> Result<(), Fail> {
             "{\"requestLine\":[]}",
             MessageRead::Member(MessageMember::RequestLine),
         ),
-        ("{\"statusLine\":\"201\"}", MessageRead::NotBuilt),
+        (
+            "{\"statusLine\":\"099\"}",
+            MessageRead::Member(MessageMember::StatusLine),
+        ),
         (
             "{\"requestLine\":[],\"statusLine\":1}",
-            MessageRead::NotBuilt,
+            MessageRead::Member(MessageMember::RequestLine),
         ),
         (
             "{\"body\":null}",

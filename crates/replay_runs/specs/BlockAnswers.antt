@@ -1,30 +1,20 @@
 -- The answers of `blocks` (this project's own): each line's integrity-protected block under the empty policy, as TS 33.501 clause 13.2.4.3.1 has it in outline.
-use Rattle.std.specs.Prelude.{◌≡◌, ℕ, ◌+◌, List, [], ◌∷◌, ◌++◌, if◌then◌else◌, None, Result, Ok, Err, pos, codes, take, nat_le}
+use Rattle.std.specs.Prelude.{◌≡◌, ℕ, ◌+◌, List, [], ◌∷◌, ◌++◌, if◌then◌else◌, None, Result, Ok, Err, pos, codes, take}
 use Rattle.spec_documents.specs.Tree.{Tree, whole, items, members, no_members, member, trees}
 use Rattle.spec_documents.specs.Compact.{compact_text}
 use Rattle.spec_documents.specs.Place.{◌>>=◌}
-use Rattle.spec_messages.specs.Message.{Message, message_of, body_depth}
-use Rattle.spec_messages.specs.Message as spec
+use Rattle.spec_messages.specs.Message.{Message}
 use Rattle.spec_messages.specs.Block.{Meta}
 use Rattle.spec_messages.specs.Plain.{empty_policy}
-use Rattle.http_message.specs.Stage.{is_built}
 use Rattle.reformat_blocks.specs.Splitting.{Parts, splitting}
 use Rattle.block_forms.specs.declared.fault.LimitName.{LimitName}
 use Rattle.script_loop.specs.Lines.{lines_of, is_blank}
-use Rattle.spec_exchange.specs.Refusals.{NotBuilt, Beyond}
-use Rattle.spec_script.specs.Refusals.{Refusal, BadMessage, DeepBody, OfCall}
+use Rattle.spec_exchange.specs.Refusals.{Beyond}
+use Rattle.spec_script.specs.Refusals.{Refusal, OfCall}
 use Rattle.spec_script.specs.LineTree.{line_tree}
+use Rattle.spec_script.specs.Messages.{message_in}
 use Rattle.spec_script.specs.Answers.{refusal_tree}
 use Rattle.script_answers.specs.View.{limit_view}
-
--- a message whose body nests at most 64 deep
-abbrev pub shallow_message : Result Message spec.Member → Result Message Refusal
-shallow_message (Ok m) = if nat_le (body_depth m.body) 64 then Ok m else Err DeepBody
-shallow_message (Err k) = Err (BadMessage k)
-
--- the message that a document is of, among those that are answered yet
-abbrev pub built_message : Tree → Result Message Refusal
-built_message t = if is_built t then shallow_message (message_of t) else Err (OfCall NotBuilt)
 
 -- the block is of no context and no message, and names no intermediary
 abbrev pub no_meta : Meta
@@ -42,7 +32,7 @@ plain_parts m = or_limit_refusal (splitting empty_policy None m no_meta)
 abbrev pub line_parts : List ℕ → Result Parts Refusal
 line_parts line =
     line_tree line >>= λ t.
-    built_message t >>= λ m.
+    message_in t >>= λ m.
     plain_parts m
 
 -- the document that answers line n

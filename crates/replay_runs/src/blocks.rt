@@ -5,7 +5,8 @@ ghost use Rattle.n32_values.specs.View.{tree_of};
 ghost use Rattle.http_message.specs.Reading.{message_view};
 ghost use Rattle.block_forms.specs.Metadata.{meta_view};
 ghost use Rattle.spec_script.specs.LineTree.{line_tree};
-ghost use Rattle.replay_runs.specs.BlockAnswers.{built_message, plain_parts, line_parts, parts_tree, no_meta, block_answer};
+ghost use Rattle.spec_script.specs.Messages.{message_in};
+ghost use Rattle.replay_runs.specs.BlockAnswers.{plain_parts, line_parts, parts_tree, no_meta, block_answer};
 ghost use Rattle.replay_runs.specs.Views.{Gives};
 
 use doc_forms::put;
@@ -48,13 +49,12 @@ fn read_line(alloc: Global, line: &[u8]) -> Result<Doc, Unanswered>
 }
 
 fn read_line_message(alloc: Global, node: &Node) -> Result<Message, Unanswered>
-    ensures gives { Gives message_view result (built_message (tree_of node.now)) }
+    ensures gives { Gives message_view result (message_in (tree_of node.now)) }
     ensures whole { IfOk result (λ m. IsTrue (is_whole (message_view m))) }
     ensures shallow { IfOk result (λ m. body_depth (message_view m).body ≤ 64) }
 {
     match read_message(alloc, node) {
         Ok(message) => Ok(message),
-        Err(MessageRead::NotBuilt) => Err(Unanswered::Refused(Refusal::NotBuilt)),
         Err(MessageRead::Member(member)) => Err(Unanswered::Refused(Refusal::Message(member))),
         Err(MessageRead::Depth) => Err(Unanswered::Refused(Refusal::Depth)),
         Err(MessageRead::NoMemory) => Err(Unanswered::NoMemory),

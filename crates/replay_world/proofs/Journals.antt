@@ -1,7 +1,7 @@
 -- A record that is none is told only where the keeper's records are read.
-use Rattle.std.proofs.Common.{◌≡◌, ℕ, List, Bool, true, false, Option, Some, None, Result, Ok, Err, refl, ap, subst}
+use Rattle.std.proofs.Common.{◌≡◌, ℕ, List, Bool, true, false, cond, nat_le, Option, Some, None, Result, Ok, Err, refl, ap, subst}
 use Rattle.spec_documents.specs.Tree.{Tree}
-use Rattle.spec_messages.specs.Message.{Message, wanted}
+use Rattle.spec_messages.specs.Message.{Message, Member, message_of, body_depth, wanted}
 use Rattle.spec_records.specs.Records.{KeySet, Context, Record}
 use Rattle.spec_exchange.specs.Chain.{◌>>=◌, unless, none_of, or_refused}
 use Rattle.spec_exchange.specs.Refusals as exchange
@@ -10,7 +10,8 @@ use Rattle.spec_exchange.specs.Outside.{Choice, Reading, Read, ReadFails, BadRec
 use Rattle.spec_exchange.specs.Outside as outside
 use Rattle.spec_exchange.specs.FirstFailed.{Delivery, first_failed_of, first_failed}
 use Rattle.spec_exchange.specs.Calls.{Sealed, Asks, delivered_record, sent_record, protected}
-use Rattle.spec_script.specs.Refusals.{Refusal, OfCall}
+use Rattle.spec_script.specs.Refusals.{Refusal, DeepBody, OfCall}
+use Rattle.spec_script.specs.Messages.{shallow_message}
 use Rattle.serde_json.specs.Data.{Data}
 use Rattle.n32_values.specs.Reading.{tree_from}
 use Rattle.spec_documents.specs.Place as place
@@ -186,10 +187,17 @@ keys_tells s f node id set =
     step_bind s f _ _ (mute_unless _ _ refl) λ c.
     puts_tells s f f.putting _ _)
 
+message_mute : (r : Result Message Member) → Mute (shallow_message r)
+message_mute (Ok m) = by_depth (nat_le (body_depth m.body) 64)
+  where
+    by_depth : (b : Bool) → Mute (cond b (Ok m) (Err DeepBody))
+    by_depth true = mute_ok m
+    by_depth false = mute_err _ refl
+message_mute (Err k) = mute_err _ refl
+
 sent_mute : (t : Tree) (answers : Option ℕ) → Mute (request_to_send t answers)
 sent_mute t answers =
-    mute_bind _ _ (mute_unless _ _ refl) λ a.
-    mute_bind _ _ (mute_or_refused _ _ λ k. refl) λ m.
+    mute_bind _ _ (message_mute (message_of t)) λ m.
     mute_bind _ _ (mute_unless _ _ refl) λ b.
     mute_bind _ _ (mute_unless _ _ refl) λ c.
     mute_ok _

@@ -1,25 +1,22 @@
 -- Requests to send, and the documents that they are sealed to.
-use Rattle.std.proofs.Common.{◌≡◌, ℕ, List, [], ◌∷◌, ◌++◌, Bool, true, false, not, cond, is_some, nat_le, nat_lt, codes, ⊎_elim, Option, Some, None, Result, Ok, Err, refl, sym, ap, subst, ◌∙◌, arith}
-use Rattle.std.proofs.lemmas.Bool.{lt-leb, le-leb}
-use Rattle.std.proofs.lemmas.Bool.Decides.{leb_tells}
+use Rattle.std.proofs.Common.{◌≡◌, ℕ, List, [], ◌∷◌, ◌++◌, is_some, codes, Option, Some, None, Result, Ok, Err, refl, sym, ap, subst, ◌∙◌, arith}
 use Rattle.std.specs.List.{AllByRecursion}
-use Rattle.spec_documents.specs.Tree.{Tree, null, truth, whole, words, items, members, get_member, depth}
-use Rattle.spec_messages.specs.Message.{Message, Member, Head, Header, Line, request, headers, message_of, request_of, line_of, head_of, head_of_lines, headers_of, plain_parts, body_depth, kind_of, kind_of_head, of_request, wanted}
-use Rattle.spec_documents.specs.Place as place
+use Rattle.spec_documents.specs.Tree.{Tree, depth}
+use Rattle.spec_messages.specs.Message.{Message, Kind, of_request, of_response, kind_of}
 use Rattle.spec_documents.specs.Compact.{compact_text}
 use Rattle.spec_messages.specs.Policy.{values}
 use Rattle.spec_messages.specs.Block.{Block, block_tree}
 use Rattle.spec_records.specs.Records.{OneKey, Context, Record}
-use Rattle.http_message.specs.Stage.{is_built}
 use Rattle.context_store.specs.Stores.{Stored}
-use Rattle.spec_exchange.specs.Chain.{◌>>=◌, unless, or_refused}
+use Rattle.spec_exchange.specs.Chain.{◌>>=◌, unless}
 use Rattle.spec_exchange.specs.Refusals as exchange
 use Rattle.spec_exchange.specs.Jwe.{carrier, sealed, content_key, nonce}
 use Rattle.spec_exchange.specs.Rebuilding.{plaintext}
 use Rattle.spec_exchange.specs.Outside.{Reading, Read, ReadFails, BadRecord, Putting, Kept, Lost, KeptUntold, puts, behind_reading, or_refusal}
 use Rattle.spec_exchange.specs.Calls.{Sealed, Outgoing, Asks, protected, sent_record, sealed_document, sent_block_of, message_id, send_key, kind_of_outgoing}
-use Rattle.spec_script.specs.Refusals.{Refusal, BadEvent, BadMessage, DeepBody, OfCall}
-use Rattle.spec_script.specs.Steps.{is_of_response, request_to_send}
+use Rattle.spec_script.specs.Refusals.{Refusal, BadEvent, OfCall}
+use Rattle.spec_script.specs.Messages.{message_in}
+use Rattle.spec_script.specs.Steps.{is_response, request_to_send}
 use Rattle.sending_sepp.specs.Outcome as sent
 use Rattle.jwe_flat.specs.declared.jwe.FlatJwe.{FlatJwe}
 use Rattle.script_answers.specs.View.{refusal_view}
@@ -27,105 +24,31 @@ use Rattle.replay_world.specs.declared.unanswered.Unanswered.{Unanswered}
 use Rattle.replay_world.specs.declared.unanswered.Unanswered.TheVariants as unanswered
 use Rattle.replay_world.specs.Refusing.{Refuses}
 use Rattle.replay_world.specs.Worlds.{IsShallow}
-use Rattle.replay_world.specs.Sending.{request_in, shallow_message}
 
 -- ---- requests
 
-built_is : (t : Tree) → is_built t ≡ not (is_of_response t)
-built_is null = refl
-built_is (truth b) = refl
-built_is (whole z) = refl
-built_is (words s) = refl
-built_is (items ts) = refl
-built_is (members ms) = refl
-
-lower_is : (n : ℕ) → nat_lt 64 n ≡ not (nat_le n 64)
-lower_is n = ⊎_elim (λ h. lt-leb 65 n (omega (arith, h.1)) ∙ sym (ap not h.0)) (λ h. le-leb 65 n (omega (arith, h.1)) ∙ sym (ap not h.0)) (leb_tells n 64)
-
 -- what follows the reading of the message
 abbrev sent_if : Option ℕ → Message → Result Message Refusal
-sent_if o m = unless (is_some o) (BadEvent (codes "answers")) >>= λ y. Ok m
+sent_if o m = unless (is_response (kind_of m)) (OfCall exchange.NotBuilt) >>= λ x. unless (is_some o) (BadEvent (codes "answers")) >>= λ y. Ok m
 
-parted : (response : Bool) (r : Result Message Member) (o : Option ℕ)
-    → (unless response (OfCall exchange.NotBuilt) >>= λ x. or_refused BadMessage r >>= λ m. unless (nat_lt 64 (body_depth m.body)) DeepBody >>= λ y. sent_if o m)
-    ≡ (cond (not response) (shallow_message r) (Err (OfCall exchange.NotBuilt)) >>= λ m. sent_if o m)
+request_is : (t : Tree) (o : Option ℕ) (r : Result Message Refusal) → message_in t ≡ r → request_to_send t o ≡ (r >>= λ m. sent_if o m)
 unfolding ◌>>=◌
-parted true r o = refl
-parted false (Err k) o = refl
-parted false (Ok m) o = rw (lower_is (body_depth m.body)) (by_depth (nat_le (body_depth m.body) 64))
-  where
-    by_depth : (b : Bool) → (unless (not b) DeepBody >>= λ y. sent_if o m) ≡ (cond b (Ok m) (Err DeepBody) >>= λ m. sent_if o m)
-    by_depth true = refl
-    by_depth false = refl
+request_is t o r h = ap (λ (x : Result Message Refusal). x >>= λ m. sent_if o m) h
 
-pub request_is : (t : Tree) (o : Option ℕ) → request_to_send t o ≡ (request_in t >>= λ m. sent_if o m)
-request_is t o = parted (is_of_response t) (message_of t) o ∙ ap (λ (b : Bool). cond b (shallow_message (message_of t)) (Err (OfCall exchange.NotBuilt)) >>= λ m. sent_if o m) (sym (built_is t))
+of_kind : (m : Message) (o : Option ℕ) (k : Kind) → kind_of m ≡ k → sent_if o m ≡ (unless (is_response k) (OfCall exchange.NotBuilt) >>= λ x. unless (is_some o) (BadEvent (codes "answers")) >>= λ y. Ok m)
+of_kind m o k h = ap (λ (x : Kind). unless (is_response x) (OfCall exchange.NotBuilt) >>= λ u. unless (is_some o) (BadEvent (codes "answers")) >>= λ y. Ok m) h
 
-pub request_sent : (t : Tree) (m : Message) → request_in t ≡ Ok m → request_to_send t None ≡ Ok m
+pub request_sent : (t : Tree) (m : Message) → message_in t ≡ Ok m → kind_of m ≡ of_request → request_to_send t None ≡ Ok m
 unfolding ◌>>=◌
-request_sent t m h = request_is t None ∙ ap (λ (r : Result Message Refusal). r >>= λ m. sent_if None m) h
+request_sent t m h k = request_is t None (Ok m) h ∙ of_kind m None of_request k
 
-pub request_answers : (t : Tree) (m : Message) (to : ℕ) → request_in t ≡ Ok m → request_to_send t (Some to) ≡ Err (BadEvent (codes "answers"))
+pub request_answers : (t : Tree) (m : Message) (to : ℕ) → message_in t ≡ Ok m → kind_of m ≡ of_request → request_to_send t (Some to) ≡ Err (BadEvent (codes "answers"))
 unfolding ◌>>=◌
-request_answers t m to h = request_is t (Some to) ∙ ap (λ (r : Result Message Refusal). r >>= λ m. sent_if (Some to) m) h
+request_answers t m to h k = request_is t (Some to) (Ok m) h ∙ of_kind m (Some to) of_request k
 
-pub request_refused : (t : Tree) (o : Option ℕ) (e : Refusal) → request_in t ≡ Err e → request_to_send t o ≡ Err e
+pub response_refused : (t : Tree) (m : Message) (o : Option ℕ) → message_in t ≡ Ok m → kind_of m ≡ of_response → request_to_send t o ≡ Err (OfCall exchange.NotBuilt)
 unfolding ◌>>=◌
-request_refused t o e h = request_is t o ∙ ap (λ (r : Result Message Refusal). r >>= λ m. sent_if o m) h
-
--- ---- a document without a status is a request's
-
-request_head : (t : Tree) (h : Head) → request_of plain_parts t ≡ Ok h → kind_of_head h ≡ of_request
-request_head null h e = cc
-request_head (truth b) h e = cc
-request_head (whole z) h e = cc
-request_head (words s) h e = cc
-request_head (items ts) h e = cc
-request_head (members ms) h e = of_line (line_of plain_parts ms) e
-  where
-    of_line : (r : Result Line Member) → place.◌>>=◌ r (λ l. Ok (request l)) ≡ Ok h → kind_of_head h ≡ of_request
-    of_line (Err k) e = cc
-    of_line (Ok l) e = let same : request l ≡ h = cc in subst (λ (z : Head). kind_of_head z ≡ of_request) same refl
-
-lines_head : (a b : Option Tree) (h : Head) → is_some b ≡ false → head_of_lines plain_parts a b ≡ Ok h → kind_of_head h ≡ of_request
-lines_head None None h none e = cc
-lines_head (Some r) None h none e = request_head r h e
-lines_head None (Some s) h none e = cc
-lines_head (Some r) (Some s) h none e = cc
-
-with_head : (r : Result Head Member) (hs : Result (List Header) Member) (body : Option Tree) (m : Message) → ((h : Head) → r ≡ Ok h → kind_of_head h ≡ of_request) → place.◌>>=◌ r (λ h. place.◌>>=◌ hs (λ hs. Ok (record { head = h; headers = hs; body = body }))) ≡ Ok m → kind_of m ≡ of_request
-with_head (Err k) hs body m f e = cc
-with_head (Ok h) (Err k) body m f e = cc
-with_head (Ok h) (Ok hs) body m f e = let same : record { head = h; headers = hs; body = body } ≡ m = cc in subst (λ (z : Message). kind_of z ≡ of_request) same (f h refl)
-
-of_built : (t : Tree) (m : Message) → is_built t ≡ true → message_of t ≡ Ok m → kind_of m ≡ of_request
-of_built null m b e = cc
-of_built (truth x) m b e = cc
-of_built (whole z) m b e = cc
-of_built (words s) m b e = cc
-of_built (items ts) m b e = cc
-of_built (members ms) m b e =
-    with_head (head_of plain_parts ms) (wanted (headers_of plain_parts (get_member (codes "headers") ms)) headers) (get_member (codes "body") ms) m
-    (λ h g. lines_head (get_member (codes "requestLine") ms) (get_member (codes "statusLine") ms) h (no_status (is_some (get_member (codes "statusLine") ms)) b) g) e
-  where
-    no_status : (x : Bool) → not x ≡ true → x ≡ false
-    no_status true h = cc
-    no_status false h = refl
-
-of_shallow : (r : Result Message Member) (m : Message) → shallow_message r ≡ Ok m → r ≡ Ok m
-of_shallow (Err k) m e = cc
-of_shallow (Ok x) m e = ap (λ (z : Message). Ok z) (by_depth (nat_le (body_depth x.body) 64) e)
-  where
-    by_depth : (b : Bool) → cond b (Ok x) (Err DeepBody) ≡ Ok m → x ≡ m
-    by_depth true e = cc
-    by_depth false e = cc
-
-pub request_kind : (t : Tree) (m : Message) → request_in t ≡ Ok m → kind_of m ≡ of_request
-request_kind t m e = by_stage (is_built t) refl e
-  where
-    by_stage : (b : Bool) → is_built t ≡ b → cond b (shallow_message (message_of t)) (Err (OfCall exchange.NotBuilt)) ≡ Ok m → kind_of m ≡ of_request
-    by_stage true is e = of_built t m is (of_shallow (message_of t) m e)
-    by_stage false is e = cc
+response_refused t m o h k = request_is t o (Ok m) h ∙ of_kind m o of_response k
 
 -- ---- what is sealed is shallow
 
@@ -176,6 +99,7 @@ all_more P (u ∷ us) t all one = (all.0, all_more P us t all.1 one)
 
 -- ---- refusals of requests
 
-pub still_refused : (t : Tree) (o : Option ℕ) (u : Unanswered) → Refuses u (request_in t) → Refuses u (request_to_send t o)
-still_refused t o (unanswered.Refused refusal) h = request_refused t o (refusal_view refusal) h
+pub still_refused : (t : Tree) (o : Option ℕ) (u : Unanswered) → Refuses u (message_in t) → Refuses u (request_to_send t o)
+unfolding ◌>>=◌
+still_refused t o (unanswered.Refused refusal) h = request_is t o (Err (refusal_view refusal)) h
 still_refused t o unanswered.NoMemory h = tt

@@ -1,6 +1,5 @@
 pub mod Worlds
 pub mod Refusing
 pub mod Stepping
-pub mod Sending
 pub mod Handing
 pub mod Fitting

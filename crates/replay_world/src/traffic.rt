@@ -7,16 +7,16 @@ ghost use Rattle.http_message.specs.Reading.{message_view};
 ghost use Rattle.spec_script.specs.Events.{Deliver, Inject, Send};
 ghost use Rattle.spec_exchange.specs.Calls.{Asks, sends};
 ghost use Rattle.script_answers.specs.Texts.{sealed_answer};
+ghost use Rattle.spec_script.specs.Messages.{message_in};
 ghost use Rattle.spec_script.specs.Steps as spec;
 ghost use Rattle.replay_world.specs.Refusing.{Gives, SparesKeeper};
-ghost use Rattle.replay_world.specs.Sending.{request_in};
 ghost use Rattle.replay_world.specs.Worlds.{IsReady, IsShallow};
 ghost use Rattle.replay_world.specs.Stepping.{Comes, ComesIdly};
 
 use crate::sites::is_known;
 use crate::unanswered::{Unanswered, undelivered, unsent};
 use crate::world::World;
-use http_message::{Message, MessageRead, read_message};
+use http_message::{Kind, Message, MessageRead, read_message};
 use n32_outside::Keeper;
 use n32_values::{Bytes, Doc, DocList, Hex64, NoMemory, Node, Text, Whole};
 use receiving_sepp::accept;
@@ -35,23 +35,22 @@ fn document_at<'a>(wire: &'a DocList, number: &Whole) -> Option<&'a Doc>
     wire.get((value - 1) as usize)
 }
 
-// The request that a document is of.
-fn read_request(alloc: Global, document: &Node) -> Result<Message, Unanswered>
-    ensures gives { Gives message_view result (request_in (tree_of document.now)) }
+// The message that a document is of.
+fn read_shallow(alloc: Global, document: &Node) -> Result<Message, Unanswered>
+    ensures gives { Gives message_view result (message_in (tree_of document.now)) }
     ensures whole { IfOk result (λ m. IsTrue (is_whole (message_view m))) }
     ensures shallow { IfOk result (λ m. body_depth (message_view m).body ≤ 64) }
     ensures spares { SparesKeeper result }
 {
     match read_message(alloc, document) {
         Ok(message) => Ok(message),
-        Err(MessageRead::NotBuilt) => Err(Unanswered::Refused(Refusal::NotBuilt)),
         Err(MessageRead::Member(member)) => Err(Unanswered::Refused(Refusal::Message(member))),
         Err(MessageRead::Depth) => Err(Unanswered::Refused(Refusal::Depth)),
         Err(MessageRead::NoMemory) => Err(Unanswered::NoMemory),
     }
 }
 
-// The request to send, where it is to answer none.
+// The request to send. No response is sent yet, and no request answers one.
 fn request_to_send(
     alloc: Global,
     document: &Node,
@@ -63,10 +62,13 @@ fn request_to_send(
     ensures kind { IfOk result (λ m. kind_of (message_view m) ≡ of_request) }
     ensures spares { SparesKeeper result }
 {
-    match read_request(alloc, document) {
-        Ok(message) => match answers {
-            None => Ok(message),
-            Some(_) => Err(Unanswered::Refused(Refusal::Event("answers"))),
+    match read_shallow(alloc, document) {
+        Ok(message) => match message.kind() {
+            Kind::Response => Err(Unanswered::Refused(Refusal::NotBuilt)),
+            Kind::Request => match answers {
+                None => Ok(message),
+                Some(_) => Err(Unanswered::Refused(Refusal::Event("answers"))),
+            },
         },
         Err(why) => Err(why),
     }

@@ -7,7 +7,7 @@ use Rattle.std.specs.List.{list_all}
 use Rattle.spec_documents.specs.Tree.{Tree, words, items, Members, no_members, member, get_member, tree_list}
 use Rattle.spec_documents.specs.Place.{◌>>=◌}
 use Rattle.spec_documents.specs.Text.{is_uri_byte, is_query_byte, is_segment, is_query_name, is_query_value, is_method, is_scheme, is_authority, is_version, is_header_name, is_header_value, is_within, lower, pieces, joined, cut_at, status_of, index_text}
-use Rattle.spec_messages.specs.Message.{Part, clear, hole_part, Pair, Header, Line, Head, request, response, Message, Member, all_read, onto_read, clear_part, is_text, is_value, is_whole, is_whole_line, is_whole_head, is_whole_header, is_lower_name, segments_of, pair_of, query_of, header_of, headers_of, wanted, text_in, line_of, head_of_lines, message_of, plain_parts, status_head}
+use Rattle.spec_messages.specs.Message.{Part, clear, hole_part, Pair, Header, Line, Head, request, response, Message, Member, all_read, onto_read, clear_part, is_text, is_value, is_whole, is_whole_line, is_whole_head, is_whole_header, is_lower_name, segments_of, pair_of, query_of, header_of, headers_of, wanted, text_in, line_of, head_of_lines, message_of, plain_parts, line_form, status_head}
 use Rattle.spec_messages.specs.Block.{with_query, line_members, header_tree, list_tree, part_tree, part_text, path_text, value_text, query_text, head_text}
 use Rattle.spec_messages.specs.Printing.{header_pair, line_tree, with_body, with_headers, message_tree}
 use Rattle.spec_documents.proofs.HeadLemmas.{avoids, avoids_by, pieces_more, pieces_one, cut_there, cut_not}
@@ -209,15 +209,20 @@ read_lines : (h : Head) → is_whole_head h ≡ true → head_of_lines plain_par
 read_lines (request l) e = ap (λ r. r >>= λ x. Ok (request x)) (read_line l e)
 read_lines (response n) e = read_status n e
 
-message_by : (r s hn bn : Option Tree) (m : Message) → head_of_lines plain_parts r s ≡ Ok m.head → headers_of plain_parts hn ≡ Some m.headers → bn ≡ m.body
-    → (head_of_lines plain_parts r s >>= λ x. wanted (headers_of plain_parts hn) Member.headers >>= λ ys. Ok (record { head = x; headers = ys; body = bn })) ≡ Ok m
-message_by r s hn bn m eh es eb = rw (eh, es, eb) refl
+read_form : (h : Head) → line_form (request_node h) ≡ Ok tt
+read_form (request l) = refl
+read_form (response n) = refl
+
+message_by : (r s hn bn : Option Tree) (m : Message) → line_form r ≡ Ok tt → head_of_lines plain_parts r s ≡ Ok m.head → headers_of plain_parts hn ≡ Some m.headers → bn ≡ m.body
+    → (line_form r >>= λ u. head_of_lines plain_parts r s >>= λ x. wanted (headers_of plain_parts hn) Member.headers >>= λ ys. Ok (record { head = x; headers = ys; body = bn })) ≡ Ok m
+message_by r s hn bn m ef eh es eb = rw (ef, eh, es, eb) refl
 
 pub printed_read : (m : Message) → is_whole m ≡ true → message_of (message_tree m) ≡ Ok m
 printed_read m e =
     let p = and_parts (is_whole_head m.head) _ e in
     let ms = all_members m.head m.headers m.body in
     message_by (get_member (codes "requestLine") ms) (get_member (codes "statusLine") ms) (get_member (codes "headers") ms) (get_member (codes "body") ms) m
+    (ap line_form (request_there m.head m.headers m.body) ∙ read_form m.head)
     (ap₂ (head_of_lines plain_parts) (request_there m.head m.headers m.body) (status_there m.head m.headers m.body) ∙ read_lines m.head p.0)
     (ap (headers_of plain_parts) (headers_there m.head m.headers m.body) ∙ read_header_node m.headers p.1)
     (body_there m.head m.headers m.body)

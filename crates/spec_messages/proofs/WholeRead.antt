@@ -4,7 +4,7 @@ use Rattle.std.specs.List.{list_all}
 use Rattle.std.proofs.lemmas.Bool.{and_from, and_parts, or_left, or_right, lt-ltb, leb-true, le-leb, eq-eqb, eqb-true}
 use Rattle.spec_documents.specs.Tree.{Members, get_member, tree_list, Tree, null, truth, whole, words, items, members}
 use Rattle.spec_documents.specs.Text.{is_method, is_scheme, is_authority, is_version, lower, lower_byte, is_within, has_length, is_token_byte, is_header_name, is_header_value, pieces, cut_at, is_segment, is_query_name, is_query_value}
-use Rattle.spec_messages.specs.Message.{Line, Head, Message, request, response, is_whole, is_whole_head, is_whole_line, message_of, head_of, head_of_lines, request_of, status_head, status_text, line_of, any_text, wanted, Header, header_from, header_of, headers_of, part_in, plain_parts, is_whole_header, is_lower_name, text_at, Pair, is_value, pair_of, query_of, Part, clear, all_read, onto_read, text_in, clear_part, is_text, segments_of}
+use Rattle.spec_messages.specs.Message.{Line, Head, Message, request, response, is_whole, is_whole_head, is_whole_line, message_of, line_form, head_of, head_of_lines, request_of, status_head, status_text, line_of, any_text, wanted, Header, header_from, header_of, headers_of, part_in, plain_parts, is_whole_header, is_lower_name, text_at, Pair, is_value, pair_of, query_of, Part, clear, all_read, onto_read, text_in, clear_part, is_text, segments_of}
 use Rattle.spec_messages.specs.Message as spec
 use Rattle.spec_documents.specs.Place.{◌>>=◌}
 use Rattle.spec_documents.proofs.TreeLemmas.{bind_ok}
@@ -226,11 +226,12 @@ head_passes (Some r) None h e = request_passes r h e
 head_passes None (Some s) h e = status_passes (status_text s) h e
 head_passes (Some r) (Some s) h e = cc
 
-message_by : (h : Result Head spec.Member) (hs : Option (List Header)) (body : Option Tree) (m : Message) → ((x : Head) → h ≡ Ok x → is_whole_head x ≡ true) → ((x : List Header) → hs ≡ Some x → list_all is_whole_header x ≡ true)
-    → (h >>= λ x. wanted hs spec.headers >>= λ ys. Ok (record { head = x; headers = ys; body = body })) ≡ Ok m → is_whole m ≡ true
-message_by (Err k) hs body m a b e = cc
-message_by (Ok x) None body m a b e = cc
-message_by (Ok x) (Some ys) body m a b e =
+message_by : (f : Result (Unit {0}) spec.Member) (h : Result Head spec.Member) (hs : Option (List Header)) (body : Option Tree) (m : Message) → ((x : Head) → h ≡ Ok x → is_whole_head x ≡ true) → ((x : List Header) → hs ≡ Some x → list_all is_whole_header x ≡ true)
+    → (f >>= λ u. h >>= λ x. wanted hs spec.headers >>= λ ys. Ok (record { head = x; headers = ys; body = body })) ≡ Ok m → is_whole m ≡ true
+message_by (Err k) h hs body m a b e = cc
+message_by (Ok u) (Err k) hs body m a b e = cc
+message_by (Ok u) (Ok x) None body m a b e = cc
+message_by (Ok u) (Ok x) (Some ys) body m a b e =
     let same : record { head = x; headers = ys; body = body } ≡ m = cc in
     subst (λ z. is_whole z ≡ true) same (and_from _ _ (a x refl) (b ys refl))
 
@@ -241,5 +242,5 @@ read_whole (whole z) m e = cc
 read_whole (words s) m e = cc
 read_whole (items ts) m e = cc
 read_whole (members ms) m e =
-    message_by (head_of plain_parts ms) (headers_of plain_parts (get_member (codes "headers") ms)) (get_member (codes "body") ms) m
+    message_by (line_form (get_member (codes "requestLine") ms)) (head_of plain_parts ms) (headers_of plain_parts (get_member (codes "headers") ms)) (get_member (codes "body") ms) m
     (λ x h. head_passes (get_member (codes "requestLine") ms) (get_member (codes "statusLine") ms) x h) (λ x h. headers_pass (get_member (codes "headers") ms) x h) e

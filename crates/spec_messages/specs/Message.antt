@@ -230,6 +230,16 @@ plain_parts = record {
   header = λ t. option_map clear (text_if is_header_value t);
 }
 
+-- a request line that is there is an object, also beside a status line
+abbrev pub line_form : Option Tree → Result (Unit {0}) Member
+line_form None = Ok tt
+line_form (Some null) = Err request_line
+line_form (Some (truth b)) = Err request_line
+line_form (Some (whole z)) = Err request_line
+line_form (Some (words s)) = Err request_line
+line_form (Some (items ts)) = Err request_line
+line_form (Some (members ms)) = Ok tt
+
 -- the message that a document is of, or the first member that is wrong. Other members are ignored
 abbrev pub message_of : Tree → Result Message Member
 message_of null = Err no_object
@@ -238,6 +248,7 @@ message_of (whole z) = Err no_object
 message_of (words s) = Err no_object
 message_of (items ts) = Err no_object
 message_of (members ms) =
+    line_form (get_member (codes "requestLine") ms) >>= λ u.
     head_of plain_parts ms >>= λ h.
     wanted (headers_of plain_parts (get_member (codes "headers") ms)) headers >>= λ hs.
     Ok (record { head = h; headers = hs; body = get_member (codes "body") ms })

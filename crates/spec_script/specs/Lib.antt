@@ -1,6 +1,7 @@
 pub mod Refusals
 pub mod RefusalTexts
 pub mod LineTree
+pub mod Messages
 pub mod Events
 pub mod Steps
 pub mod Answers

@@ -1,7 +1,7 @@
 -- What the events of a script come to, in a state and under the choices of the keeper (this project's own).
-use Rattle.std.specs.Prelude.{ℕ, zero, suc, ◌+◌, ℤ, pos, negsuc, Bool, false, not, is_some, nat_le, nat_lt, List, [], ◌∷◌, ◌++◌, length, Option, Some, None, Result, Ok, Err, if◌then◌else◌, bytes_eq, slice_get, codes}
-use Rattle.spec_documents.specs.Tree.{Tree, null, truth, whole, words, items, members, get_member}
-use Rattle.spec_messages.specs.Message.{Message, message_of, body_depth, wanted}
+use Rattle.std.specs.Prelude.{ℕ, zero, suc, ◌+◌, ℤ, pos, negsuc, Bool, true, false, not, is_some, nat_le, List, [], ◌∷◌, ◌++◌, length, Option, Some, None, Result, Ok, Err, if◌then◌else◌, bytes_eq, slice_get, codes}
+use Rattle.spec_documents.specs.Tree.{Tree}
+use Rattle.spec_messages.specs.Message.{Message, Kind, of_request, of_response, kind_of, wanted}
 use Rattle.spec_messages.specs.Policy.{Policy}
 use Rattle.spec_messages.specs.PolicyDocument.{policy_of}
 use Rattle.spec_records.specs.Records.{KeySet, Context, Record, Opened, Keyed, record_limit, keys_fit, used, open_context, keys}
@@ -11,7 +11,8 @@ use Rattle.spec_exchange.specs.Refusals as exchange
 use Rattle.spec_exchange.specs.Outside.{Choice, Reading, Read, ReadFails, BadRecord, Putting, Kept, Lost, KeptUntold, Outcome, with_put}
 use Rattle.spec_exchange.specs.FirstFailed.{Delivery}
 use Rattle.spec_exchange.specs.Calls.{Sealed, Asks, accepted, sends}
-use Rattle.spec_script.specs.Refusals.{Refusal, BadEvent, NodeUnknown, NodeExists, WireUnknown, BadMessage, DeepBody, BadPolicy, ContextUsed, KeysTwice, OfCall}
+use Rattle.spec_script.specs.Refusals.{Refusal, BadEvent, NodeUnknown, NodeExists, WireUnknown, BadPolicy, ContextUsed, KeysTwice, OfCall}
+use Rattle.spec_script.specs.Messages.{message_in}
 use Rattle.spec_script.specs.Events.{HandedContext, Event, AddNode, AddContext, AddKeys, Send, Inject, Deliver, Restart, line_event}
 
 -- a node, and the PLMN id of its network
@@ -116,21 +117,15 @@ wire_at wire (negsuc n) = None
 abbrev pub known_document : State → ℤ → Result Tree Refusal
 known_document s number = wanted (wire_at s.wire number) WireUnknown
 
--- a document with a status is a response's, which isn't read yet
-abbrev pub is_of_response : Tree → Bool
-is_of_response null = false
-is_of_response (truth b) = false
-is_of_response (whole z) = false
-is_of_response (words s) = false
-is_of_response (items ts) = false
-is_of_response (members ms) = is_some (get_member (codes "statusLine") ms)
+abbrev pub is_response : Kind → Bool
+is_response of_request = false
+is_response of_response = true
 
--- the request to send
+-- the request to send. No response is sent yet, and no request answers one
 abbrev pub request_to_send : Tree → Option ℕ → Result Message Refusal
 request_to_send t answers = do
-  _ ← unless (is_of_response t) (OfCall NotBuilt)
-  m ← or_refused BadMessage (message_of t)
-  _ ← unless (nat_lt 64 (body_depth m.body)) DeepBody
+  m ← message_in t
+  _ ← unless (is_response (kind_of m)) (OfCall NotBuilt)
   _ ← unless (is_some answers) (BadEvent (codes "answers"))
   Ok m
 

@@ -3,7 +3,7 @@
 ghost use Rattle.std.specs.Prelude.{◌≡◌, ℕ, pos, negsuc, [], ◌∷◌, Some, None, Ok, Err, codes};
 ghost use Rattle.spec_documents.specs.Tree.{Tree, null, whole, words, items, trees};
 ghost use Rattle.spec_documents.specs.Hole as hole;
-ghost use Rattle.spec_messages.specs.Message.{method, headers};
+ghost use Rattle.spec_messages.specs.Message.{method, headers, status_line};
 ghost use Rattle.spec_messages.specs.Fault as block;
 ghost use Rattle.spec_messages.specs.Policy.{body_at};
 ghost use Rattle.spec_records.specs.Records.{Opened, Keyed};
@@ -72,7 +72,8 @@ pub fn context_rows()
 
 /// What is sent is a request that answers none.
 pub fn message_rows()
-    ensures response { (step (holding []) no_fault (Send (codes "A") 161 (named [] ((codes "statusLine", null) ∷ [])) None)).answer ≡ Refuses (OfCall NotBuilt) }
+    ensures response { (step (holding []) no_fault (Send (codes "A") 161 (named [] ((codes "statusLine", words (codes "201")) ∷ [])) (Some 7))).answer ≡ Refuses (OfCall NotBuilt) }
+    ensures status { (step (holding []) no_fault (Send (codes "A") 161 (named [] ((codes "statusLine", null) ∷ [])) None)).answer ≡ Refuses (BadMessage status_line) }
     ensures message { (step (holding []) no_fault (Send (codes "A") 161 (request_document ((codes "headers", null) ∷ [])) (Some 7))).answer ≡ Refuses (BadMessage headers) }
     ensures deep { (step (holding []) no_fault (Send (codes "A") 161 (request_document ((codes "body", nested 65) ∷ [])) (Some 7))).answer ≡ Refuses DeepBody }
     ensures answers { (step (holding []) no_fault (Send (codes "A") 161 (request_document ((codes "body", nested 64) ∷ [])) (Some 7))).answer ≡ Refuses (BadEvent (codes "answers")) }
