@@ -12,4 +12,5 @@ pub use Rattle.spec_documents.specs.Fields
 pub use Rattle.spec_documents.specs.TreeCode
 pub use Rattle.spec_documents.specs.Compact
 pub mod Base64url
+pub mod Costs
 pub use Rattle.spec_documents.specs.Ids

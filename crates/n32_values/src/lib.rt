@@ -5,6 +5,7 @@ mod base64url;
 mod bytes;
 mod doc;
 mod ids;
+mod length;
 mod list;
 mod memory;
 mod node;
@@ -19,6 +20,7 @@ pub use base64url::{B64Fault, base64url_tells_bytes_apart, base64url_text, read_
 pub use bytes::Bytes;
 pub use doc::Doc;
 pub use ids::{Hex64, hex64_text, read_hex64};
+pub use length::text_length;
 pub use list::{DocList, List, TextList};
 pub use memory::NoMemory;
 pub use node::{Node, NodeList, NodeMap, copy_doc, depth};
