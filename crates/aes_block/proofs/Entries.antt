@@ -2,8 +2,8 @@
 use Rattle.std.proofs.Common.{◌≡◌, ◌<◌, ℕ, refl, get_or}
 use Rattle.aes_block.specs.declared.tables.TheConstants.{MIXED_COLUMNS, SUBSTITUTIONS}
 use Rattle.aes_block.specs.Columns.{mixed_word}
-use Rattle.aes_block.specs.Field.{inverse, polynomial_product, product, remainder, substitution}
-use Rattle.aes_block.proofs.Below.{all_below, same_below}
+use Rattle.spec_sealing.specs.AesField.{inverse, polynomial_product, product, remainder, substitution}
+use Rattle.spec_documents.proofs.Below.{all_below, same_below}
 
 pub substitutions-at : (x : ℕ) → x < 256 → get_or SUBSTITUTIONS x 0 ≡ substitution x
 unfolding all_below polynomial_product remainder product inverse substitution

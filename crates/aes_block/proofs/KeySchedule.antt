@@ -3,9 +3,9 @@ use Rattle.std.proofs.Common.{◌≡◌, ◌≤◌, ◌<◌, ℕ, suc, refl, ari
 use Rattle.std.proofs.Common.{get_or-take}
 use Rattle.std.proofs.lemmas.Slice.{take-put_mid}
 use borrow.Rule.Slice.PartMut.{put_mid}
-use Rattle.aes_block.specs.Field.{polynomial_product, product, remainder, x_power}
-use Rattle.aes_block.specs.Aes.{add_first, add_words, list_of, next_word, rot_word, schedule, step_word, sub_bytes, word}
-use Rattle.aes_block.proofs.Below.{all_below, same_below}
+use Rattle.spec_sealing.specs.AesField.{polynomial_product, product, remainder, x_power}
+use Rattle.spec_sealing.specs.Aes.{add_first, add_words, list_of, next_word, rot_word, schedule, step_word, sub_bytes, word}
+use Rattle.spec_documents.proofs.Below.{all_below, same_below}
 
 pub step_word-turned : (nk i : ℕ) (a : List ℕ) → i % nk ≡ 0
     → step_word nk i a ≡ add_first (x_power (i / nk - 1)) (sub_bytes (rot_word a))

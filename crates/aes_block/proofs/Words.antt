@@ -3,10 +3,10 @@ use Rattle.std.proofs.Common.{◌≡◌, ◌<◌, ◌+◌, ◌*◌, ◌/◌, ◌
 use Rattle.std.specs.Int.{byte_at, from_be_bytes, rotate_right, to_be_bytes, w32}
 use Rattle.std.proofs.lemmas.Nat.{or_comm, or_shifted, xor_block, xor_lt}
 use borrow.Author.Tests.{ltb-true}
-use Rattle.aes_block.specs.Aes.{add_words, list_of, mixed, sub_bytes}
+use Rattle.spec_sealing.specs.Aes.{add_words, list_of, mixed, sub_bytes}
 use Rattle.aes_block.specs.Columns.{mixed_column, mixed_word, word_of}
-use Rattle.aes_block.specs.Field.{inverse, polynomial_product, product, remainder, substitution}
-use Rattle.aes_block.proofs.Below.{all_below, all_below-at, same_below}
+use Rattle.spec_sealing.specs.AesField.{inverse, polynomial_product, product, remainder, substitution}
+use Rattle.spec_documents.proofs.Below.{all_below, all_below-at, same_below}
 
 module _ (a b c d : ℕ) (ha : a < 256) (hb : b < 256) (hc : c < 256) (hd : d < 256) where
   word_of-nested : word_of a b c d ≡ ((a * 2 ^ 8 + b) * 2 ^ 8 + c) * 2 ^ 8 + d

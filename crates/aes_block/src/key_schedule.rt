@@ -1,7 +1,7 @@
 //! The key schedule: the words of all round keys, as bytes one after the other.
 
 ghost use Rattle.std.specs.Prelude.{◌≡◌, ◌+◌, ◌-◌, ◌*◌, ◌/◌, ◌%◌, ◌<◌, ◌≤◌, length, take};
-ghost use Rattle.aes_block.specs.Aes.{next_word, schedule, step_word, word};
+ghost use Rattle.spec_sealing.specs.Aes.{next_word, schedule, step_word, word};
 
 use crate::tables::substitution;
 

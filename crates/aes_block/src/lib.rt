@@ -2,7 +2,7 @@
 #![tactic(auto)]
 
 ghost use Rattle.std.specs.Prelude.{◌≡◌, ℕ, List};
-ghost use Rattle.aes_block.specs.Aes.{aes, schedule};
+ghost use Rattle.spec_sealing.specs.Aes.{aes, schedule};
 
 mod key_schedule;
 mod rounds;

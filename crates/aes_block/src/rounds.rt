@@ -2,7 +2,7 @@
 
 ghost use Rattle.std.specs.Prelude.{◌≡◌, ◌+◌, ◌*◌, ◌<◌, ◌≤◌, List, [], ◌∷◌, length};
 ghost use Rattle.std.specs.Int.{byte_at, from_be_bytes, to_be_bytes, w32};
-ghost use Rattle.aes_block.specs.Aes.{add_round_key, add_words, encrypted, mix_columns, shift_rows, sub_bytes};
+ghost use Rattle.spec_sealing.specs.Aes.{add_round_key, add_words, encrypted, mix_columns, shift_rows, sub_bytes};
 ghost use Rattle.aes_block.specs.Columns.{bytes_at, bytes_of, mixed_column, word_at};
 
 use crate::tables::{mixed_word, substitution};

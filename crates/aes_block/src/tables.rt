@@ -2,7 +2,7 @@
 
 ghost use Rattle.std.specs.Prelude.{◌≡◌};
 ghost use Rattle.aes_block.specs.Columns.{mixed_word};
-ghost use Rattle.aes_block.specs.Field.{substitution};
+ghost use Rattle.spec_sealing.specs.AesField.{substitution};
 
 // S(x) of each byte x.
 static SUBSTITUTIONS: [u8; 256] = [

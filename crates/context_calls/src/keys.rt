@@ -5,11 +5,13 @@ ghost use Rattle.http_message.specs.Reading.{kind_view};
 ghost use Rattle.context_records.specs.View.{key_set_view, one_key_view, suite_view};
 ghost use Rattle.spec_exchange.specs.Calls as calls;
 ghost use Rattle.spec_exchange.specs.FirstFailed as exchange;
-ghost use Rattle.spec_exchange.specs.Jwe.{content_key, nonce};
+ghost use Rattle.spec_exchange.specs.Nonce.{nonce};
+ghost use Rattle.spec_sealing.specs.Suites.{content_key};
+ghost use Rattle.jwe_flat.specs.View.{content_key_view};
 
+use context_records::{KeySet, OneKey};
 use http_message::Kind;
 use jwe_flat::{ContentKey, Suite};
-use context_records::{KeySet, OneKey};
 
 /// The keys of an open context fit its suite.
 pub fn keys_fit_suite()
@@ -19,7 +21,7 @@ pub fn keys_fit_suite()
 // A key that fits a suite is the suite's.
 fn fitting(suite: Suite, key: &OneKey) -> &ContentKey
     requires { IsTrue (key_fits (suite_view suite) (one_key_view key.now)) }
-    ensures { result.now ≡ content_key (suite_view suite) (one_key_view key.now).key }
+    ensures { content_key_view result.now ≡ content_key (suite_view suite) (one_key_view key.now).key }
 {
     let _length = match &key.key {
         ContentKey::Aes128(key) => key.key().len(),
@@ -49,7 +51,7 @@ fn receiving(keys: &KeySet, kind: Kind) -> &OneKey
 /// The key that messages of the kind are sealed under. The keys must fit the suite, as those of an open context do.
 pub fn send_key(suite: Suite, keys: &KeySet, kind: Kind) -> &ContentKey
     requires { IsTrue (keys_fit (suite_view suite) (key_set_view keys.now)) }
-    ensures { result.now ≡ content_key (suite_view suite) (calls.send_key (kind_view kind) (key_set_view keys.now)).key }
+    ensures { content_key_view result.now ≡ content_key (suite_view suite) (calls.send_key (kind_view kind) (key_set_view keys.now)).key }
 {
     fitting(suite, sending(keys, kind))
 }
@@ -58,7 +60,7 @@ pub fn send_key(suite: Suite, keys: &KeySet, kind: Kind) -> &ContentKey
 /// context do.
 pub fn receive_key(suite: Suite, keys: &KeySet, kind: Kind) -> &ContentKey
     requires { IsTrue (keys_fit (suite_view suite) (key_set_view keys.now)) }
-    ensures { result.now ≡ content_key (suite_view suite) (exchange.receive_key (kind_view kind) (key_set_view keys.now)).key }
+    ensures { content_key_view result.now ≡ content_key (suite_view suite) (exchange.receive_key (kind_view kind) (key_set_view keys.now)).key }
 {
     fitting(suite, receiving(keys, kind))
 }

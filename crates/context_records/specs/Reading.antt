@@ -2,7 +2,7 @@
 use Rattle.std.specs.Prelude.{◌≡◌, ⊤, ℕ, List, Result, Ok, Err}
 use Rattle.spec_documents.specs.Tree.{Tree}
 use Rattle.spec_documents.specs.Compact.{compact_text}
-use Rattle.n32_values.specs.Reading.{ReadsTo}
+use Rattle.spec_documents.specs.Reading.{ReadsTo}
 use Rattle.spec_records.specs.Records.{Record}
 use Rattle.spec_records.specs.RecordDocument.{NoRecord, no_record, record_of, record_tree}
 use Rattle.context_records.specs.declared.read.RecordRead.{RecordRead}

@@ -2,8 +2,7 @@
 use Rattle.std.specs.Prelude.{ℕ, List}
 use Rattle.spec_records.specs.Records as spec
 use Rattle.http_message.specs.Reading.{kind_view}
-use Rattle.jwe_flat.specs.declared.key.Suite.{Suite}
-use Rattle.jwe_flat.specs.declared.key.Suite.TheVariants.{A128Gcm, A256Gcm}
+pub use Rattle.jwe_flat.specs.View.{suite_view}
 use Rattle.jwe_flat.specs.declared.key.ContentKey.{ContentKey}
 use Rattle.jwe_flat.specs.declared.key.ContentKey.TheVariants.{Aes128, Aes256}
 use Rattle.context_records.specs.declared.context.OneKey.{OneKey}
@@ -11,10 +10,6 @@ use Rattle.context_records.specs.declared.context.KeySet.{KeySet}
 use Rattle.context_records.specs.declared.context.Context.{Context}
 use Rattle.context_records.specs.declared.record.Record.{Record}
 use Rattle.context_records.specs.declared.record.Record.TheVariants.{Offered, Opened, Keyed, Sent, Delivered, Closed}
-
-abbrev pub suite_view : Suite → spec.Suite
-suite_view A128Gcm = spec.A128Gcm
-suite_view A256Gcm = spec.A256Gcm
 
 -- the bytes of a key
 abbrev pub key_view : ContentKey → List ℕ

@@ -10,6 +10,3 @@ mod store;
 
 pub use faults::{AddFault, OpenFault};
 pub use store::{RECORD_LIMIT, Store, new_store, open_store};
-
-#[cfg(test)]
-mod tests;

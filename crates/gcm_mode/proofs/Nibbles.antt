@@ -6,9 +6,10 @@ use Rattle.std.proofs.lemmas.List.FromFn.{fill_by_all, get_or-map-range_with_len
 use Rattle.std.proofs.lemmas.Nat.{mod-pow-add, pow-add, shl_below, xor_comm}
 use Rattle.std.proofs.lemmas.Nat.Bits.{bit_at-zero, bit_at_cat_low}
 use lib.Bits.{xor_shifted, xor_zero_r}
-use Rattle.aes_block.proofs.Below.{all_below, same_below}
+use Rattle.spec_documents.proofs.Below.{all_below, same_below}
 use Rattle.gcm_mode.specs.declared.field.TheConstants.{REDUCTIONS}
-use Rattle.gcm_mode.specs.Field.{product, nibble_products, one, product_below, times_power, times_u}
+use Rattle.spec_sealing.specs.GcmField.{product, one, product_below, times_power, times_u}
+use Rattle.gcm_mode.specs.Table.{nibble_products}
 use Rattle.gcm_mode.proofs.Products.{product-one, product-xor_left, product_below-times_power, product_comm, times_power-lt, times_power-xor, times_u-double}
 
 -- ---- u^4

@@ -1,3 +1,1 @@
-pub mod Field
-pub mod Gcm
-pub mod Vectors
+pub mod Table

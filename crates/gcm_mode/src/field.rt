@@ -1,7 +1,8 @@
 //! Blocks as polynomials over the field of two elements. The greatest bit is the coefficient of u^0.
 
 ghost use Rattle.std.specs.Prelude.{◌≡◌, ℕ, ◌≤◌, slice_index};
-ghost use Rattle.gcm_mode.specs.Field.{nibble_products, product, product_below, times_power, times_u};
+ghost use Rattle.spec_sealing.specs.GcmField.{product, product_below, times_power, times_u};
+ghost use Rattle.gcm_mode.specs.Table.{nibble_products};
 
 use std::marker::Model;
 

@@ -1,8 +1,8 @@
 //! GHASH over bytes, a block at a time.
 
 ghost use Rattle.std.specs.Prelude.{◌≡◌, ℕ, ◌+◌, ◌*◌, ◌^◌, ◌<◌, ◌≤◌, List, ◌++◌, length, slice_index};
-ghost use Rattle.gcm_mode.specs.Field.{ghash};
-ghost use Rattle.gcm_mode.specs.Gcm.{block_at, blocks};
+ghost use Rattle.spec_sealing.specs.GcmField.{ghash};
+ghost use Rattle.spec_sealing.specs.Gcm.{block_at, blocks};
 
 use crate::field::GhashTable;
 

@@ -2,7 +2,7 @@
 
 ghost use Rattle.std.specs.Prelude.{◌≡◌, ◌+◌, ◌*◌, ◌<◌, ◌≤◌, bit_xor, length, map, slice_index};
 ghost use Rattle.std.specs.List.{range_with_len};
-ghost use Rattle.gcm_mode.specs.Gcm.{counter_block, with_key_stream};
+ghost use Rattle.spec_sealing.specs.Gcm.{counter_block, with_key_stream};
 
 use aes_block::BlockKey;
 

@@ -6,7 +6,7 @@
 
 ghost use Rattle.std.specs.Prelude.{◌≡◌, ◌↔◌, ◌++◌, IsTrue};
 ghost use Rattle.std.specs.Bool.{OnTrue, OnFalse};
-ghost use Rattle.gcm_mode.specs.Gcm.{Opens, SealedOpens, Seals, lengths, tag_of};
+ghost use Rattle.spec_sealing.specs.Gcm.{Opens, Seals, lengths, tag_of};
 
 mod field;
 mod ghash;
@@ -55,12 +55,6 @@ pub fn open_in_place<B: BlockKey>(
     add_key_stream(key, iv, buffer);
     true
 }
-
-/// A law over the definitions: what was sealed opens with the same key, nonce and additional data. The
-/// tag is equal, and the plaintext comes back.
-pub fn sealed_opens()
-    ensures { SealedOpens }
-{}
 
 fn tag_of<B: BlockKey>(key: &B, iv: &[u8; 12], head: &[u8], tail: &[u8], text: &[u8]) -> [u8; 16]
     ensures { result ≡ tag_of (B.cipher key.now) iv.now (head.now ++ tail.now) text.now }

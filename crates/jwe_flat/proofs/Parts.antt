@@ -1,36 +1,42 @@
 -- What the calls of GCM say, over the parts of a JWE.
-use Rattle.std.proofs.Common.{◌≡◌, ℕ, List, ◌++◌, Bool, false, ◌↔◌, None, Some, Option, refl}
-use Rattle.std.specs.Prelude.{IsTrue}
-use Rattle.gcm_mode.specs.Gcm as gcm
-use Rattle.spec_documents.specs.Tree.{Members}
-use Rattle.n32_values.specs.Base64url.{base64url}
-use Rattle.jwe_flat.specs.Keys.{suite_of, content_cipher}
-use Rattle.jwe_flat.specs.Header.{ReadsHeader, FaultIs, header_text, header_fault}
-use Rattle.jwe_flat.specs.Sealing.{JweOf, Opens, HasOtherTag, before_aad}
-use Rattle.jwe_flat.specs.declared.jwe.FlatJwe.{FlatJwe}
-use Rattle.jwe_flat.specs.declared.key.Suite.{Suite}
-use Rattle.jwe_flat.specs.declared.key.ContentKey.{ContentKey}
-use Rattle.jwe_flat.specs.declared.opening.CipherWhy.{CipherWhy}
-use Rattle.jwe_flat.specs.declared.opening.CipherWhy.TheVariants.{Alg}
+use Rattle.std.proofs.Common.{◌≡◌, ◌≢◌, ℕ, List, ◌++◌, Bool, true, false, Some, None, Ok, Err, refl, sym, ap, ◌∙◌, cond}
+use Rattle.std.specs.Prelude.{bytes_eq}
+use Rattle.std.proofs.lemmas.Slice.Eq.{bytes_eq-Decides}
+use Rattle.spec_documents.specs.Base64url.{base64url}
+use Rattle.spec_documents.specs.Chain.{◌>>=◌}
+use Rattle.spec_sealing.specs.Gcm.{Seals, Opens, tag_of, with_key_stream}
+use Rattle.spec_sealing.specs.Suites.{ContentKey, suite_of, content_cipher}
+use Rattle.spec_sealing.specs.Header.{header_text}
+use Rattle.spec_sealing.specs.Jwe.{Jwe, Integrity, before_aad, additional_data, misfit, opened, opens, sealed}
 
-pub sealed_parts : (key : ContentKey) (nonce block values : List ℕ) (w : FlatJwe) (head tail old : List ℕ) → w.protected ≡ header_text (suite_of key) → w.aad ≡ base64url block → w.iv ≡ nonce
-    → head ≡ before_aad w.protected → tail ≡ w.aad → old ≡ values → gcm.Seals (content_cipher key) nonce (head ++ tail) old w.ciphertext w.tag → JweOf key nonce block values w
+pub sealed_parts : (key : ContentKey) (nonce block values : List ℕ) (w : Jwe) (head tail old : List ℕ) → w.protected ≡ header_text (suite_of key) → w.aad ≡ base64url block → w.iv ≡ nonce
+    → head ≡ before_aad w.protected → tail ≡ w.aad → old ≡ values → Seals (content_cipher key) nonce (head ++ tail) old w.ciphertext w.tag → w ≡ sealed key nonce block values
 sealed_parts key nonce block values w head tail old protected aad iv is_head is_tail is_old h =
-    record { protected = protected; aad = aad; iv = iv; sealed = rw (is_head, is_tail, is_old) at h }
+    let e : List ℕ → List ℕ = content_cipher key in
+    let all : head ++ tail ≡ before_aad (header_text (suite_of key)) ++ base64url block = λ i. (is_head ∙ ap before_aad protected) i ++ (is_tail ∙ aad) i in
+    let text : w.ciphertext ≡ with_key_stream e nonce values = h.text ∙ ap (with_key_stream e nonce) is_old in
+    λ i. record { protected = protected i; aad = aad i; iv = iv i; ciphertext = text i; tag = (h.tag ∙ (λ j. tag_of e nonce (all j) (text j))) i }
 
-pub opened_parts : (key : ContentKey) (w : FlatJwe) (head tail old new : List ℕ) → head ≡ before_aad w.protected → tail ≡ w.aad → old ≡ w.ciphertext
-    → gcm.Opens (content_cipher key) w.iv (head ++ tail) old w.tag new → Opens w key new
-opened_parts key w head tail old new is_head is_tail is_old h = rw (is_head, is_tail, is_old) at h
+module _ (key : ContentKey) (w : Jwe) (head tail : List ℕ) (is_head : head ≡ before_aad w.protected) (is_tail : tail ≡ w.aad) (fits : misfit key w ≡ None) where
+  all : head ++ tail ≡ additional_data w
+  all i = is_head i ++ is_tail i
 
-pub other_parts : (key : ContentKey) (w : FlatJwe) (head tail old : List ℕ) (verdict : Bool) → head ≡ before_aad w.protected → tail ≡ w.aad → old ≡ w.ciphertext → verdict ≡ false
-    → (IsTrue verdict ↔ (w.tag ≡ gcm.tag_of (content_cipher key) w.iv (head ++ tail) old)) → HasOtherTag w key
-other_parts key w head tail old verdict is_head is_tail is_old is_false h e =
-    let all = rw (is_head, is_tail, is_old) at h in
-    let told = all.1 e in
-    cc (told, is_false)
+  pub opened_parts : (old new : List ℕ) → old ≡ w.ciphertext → Opens (content_cipher key) w.iv (head ++ tail) old w.tag new → opens key w ≡ Ok new
+  unfolding ◌>>=◌
+  opened_parts old new is_old h =
+      let tag : w.tag ≡ tag_of (content_cipher key) w.iv (additional_data w) w.ciphertext = h.tag ∙ (λ i. tag_of (content_cipher key) w.iv (all i) (is_old i)) in
+      let same : bytes_eq w.tag (tag_of (content_cipher key) w.iv (additional_data w) w.ciphertext) ≡ true = (bytes_eq-Decides w.tag (tag_of (content_cipher key) w.iv (additional_data w) w.ciphertext)).1 tag in
+      let text : opened key w ≡ Some new =
+      ap (λ b. cond b (Some (with_key_stream (content_cipher key) w.iv w.ciphertext)) None) same ∙ ap (λ t. Some t) (sym (h.text ∙ ap (with_key_stream (content_cipher key) w.iv) is_old)) in
+      rw (fits, text) refl
 
-pub fault_of_header : (s : Suite) (text : List ℕ) (ms : Members) (fault : Option CipherWhy) → ReadsHeader text ms → fault ≡ header_fault s ms → FaultIs s text fault
-fault_of_header s text ms fault h e = rw e (record { header = Some ms; is = h; first = refl })
+  pub other_parts : (old : List ℕ) → old ≡ w.ciphertext → w.tag ≢ tag_of (content_cipher key) w.iv (head ++ tail) old → opens key w ≡ Err Integrity
+  unfolding ◌>>=◌
+  other_parts old is_old other = rw (fits, none) refl
+    where
+      tested : (b : Bool) → bytes_eq w.tag (tag_of (content_cipher key) w.iv (additional_data w) w.ciphertext) ≡ b → cond b (Some (with_key_stream (content_cipher key) w.iv w.ciphertext)) None ≡ None
+      tested true e = absurd (other ((bytes_eq-Decides w.tag (tag_of (content_cipher key) w.iv (additional_data w) w.ciphertext)).0 e ∙ sym (λ i. tag_of (content_cipher key) w.iv (all i) (is_old i))))
+      tested false e = refl
 
-pub fault_of_none : (s : Suite) (text : List ℕ) → ((ms : Members) → ReadsHeader text ms → ⊥) → FaultIs s text (Some Alg)
-fault_of_none s text h = record { header = None; is = h; first = refl }
+      none : opened key w ≡ None
+      none = tested (bytes_eq w.tag (tag_of (content_cipher key) w.iv (additional_data w) w.ciphertext)) refl

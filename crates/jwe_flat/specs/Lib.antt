@@ -1,4 +1,1 @@
-pub mod Keys
-pub mod Header
-pub mod Sealing
-pub mod Form
+pub mod View

@@ -1,26 +1,18 @@
 //! Headers that are read, and the one that is written.
 
-ghost use Rattle.std.specs.Prelude.{◌≡◌, Err, IfOk};
-ghost use Rattle.spec_documents.specs.Tree.{Members, members};
-ghost use Rattle.n32_values.specs.Reading.{ReadsTo};
+ghost use Rattle.std.specs.Prelude.{◌≡◌, IfOk, option_map, option_and_then};
+ghost use Rattle.spec_documents.specs.Reading.{document_of};
 ghost use Rattle.n32_values.specs.View.{tree_of};
-ghost use Rattle.jwe_flat.specs.Header as spec;
+ghost use Rattle.spec_sealing.specs.Header as spec;
+ghost use Rattle.jwe_flat.specs.View.{misfit_view, suite_view};
 
 use crate::key::Suite;
 use crate::opening::CipherWhy;
 use doc_forms::{Grammar, text_at};
 use n32_values::{
-    B64Fault, DocFault, NoMemory, Node, NodeMap, Text, base64url_tells_bytes_apart, base64url_text,
-    read_base64url, read_doc,
+    B64Fault, DocFault, NoMemory, Node, NodeMap, Text, base64url_text, read_base64url, read_doc,
 };
 use std::alloc::Global;
-
-// Why a text gives no header.
-#[derive(Clone, Copy, Drop)]
-pub(crate) enum HeaderFault {
-    NoHeader,
-    NoMemory,
-}
 
 fn object_in(node: Node) -> Option<NodeMap>
     ensures { result ≡ spec.object_in (tree_of node) }
@@ -31,32 +23,26 @@ fn object_in(node: Node) -> Option<NodeMap>
     }
 }
 
-// The members of the JSON object that bytes are read to.
-fn read_object(alloc: Global, bytes: &[u8]) -> Result<NodeMap, HeaderFault>
-    ensures ok { IfOk result (λ ms. ReadsTo bytes.now (members ms)) }
-    ensures none { result ≡ Err HeaderFault.NoHeader → (ms : Members) → ReadsTo bytes.now (members ms) → ⊥ }
+// The members of the JSON object that bytes are read to, if they are read to one.
+fn read_object(alloc: Global, bytes: &[u8]) -> Result<Option<NodeMap>, NoMemory>
+    ensures { IfOk result (λ found. option_and_then spec.object_in (document_of bytes.now) ≡ found) }
 {
     match read_doc(alloc, bytes) {
-        Ok(doc) => match object_in(doc.into_node()) {
-            Some(map) => Ok(map),
-            None => Err(HeaderFault::NoHeader),
-        },
-        Err(DocFault::Syntax) => Err(HeaderFault::NoHeader),
-        Err(DocFault::Number) => Err(HeaderFault::NoHeader),
-        Err(DocFault::NoMemory) => Err(HeaderFault::NoMemory),
+        Ok(doc) => Ok(object_in(doc.into_node())),
+        Err(DocFault::Syntax) => Ok(None),
+        Err(DocFault::Number) => Ok(None),
+        Err(DocFault::NoMemory) => Err(NoMemory),
     }
 }
 
-// The members of the header that a text is of.
-pub(crate) fn read_header(alloc: Global, text: &str) -> Result<NodeMap, HeaderFault>
-    ensures ok { IfOk result (spec.ReadsHeader text.now) }
-    ensures none { result ≡ Err HeaderFault.NoHeader → (ms : Members) → spec.ReadsHeader text.now ms → ⊥ }
+// The members of the header that a text is of, if it is a header's.
+pub(crate) fn read_header(alloc: Global, text: &str) -> Result<Option<NodeMap>, NoMemory>
+    ensures { IfOk result (λ found. spec.header_in text.now ≡ found) }
 {
-    base64url_tells_bytes_apart();
     match read_base64url(alloc, text) {
         Ok(bytes) => read_object(alloc, bytes.as_slice()),
-        Err(B64Fault::NotText) => Err(HeaderFault::NoHeader),
-        Err(B64Fault::NoMemory) => Err(HeaderFault::NoMemory),
+        Err(B64Fault::NotText) => Ok(None),
+        Err(B64Fault::NoMemory) => Err(NoMemory),
     }
 }
 
@@ -72,7 +58,7 @@ pub(crate) fn has_text(map: &NodeMap, name: &str, wanted: &str) -> bool
 
 // The first member by which a header isn't of the suite.
 fn fault_of(map: &NodeMap, suite: Suite) -> Option<CipherWhy>
-    ensures { result ≡ spec.header_fault suite map.now }
+    ensures { option_map misfit_view result ≡ spec.header_misfit (suite_view suite) map.now }
 {
     if !has_text(map, "alg", "dir") {
         Some(CipherWhy::Alg)
@@ -87,25 +73,32 @@ fn fault_of(map: &NodeMap, suite: Suite) -> Option<CipherWhy>
     }
 }
 
+// The fault of a header under a suite. A text that is no header has none of the members.
+fn fault_in(header: Option<&NodeMap>, suite: Suite) -> Option<CipherWhy>
+    ensures { option_map misfit_view result ≡ spec.header_misfit (suite_view suite) (spec.members_if (option_map (λ m. m.now) header)) }
+{
+    match header {
+        Some(map) => fault_of(map, suite),
+        None => Some(CipherWhy::Alg),
+    }
+}
+
 // The fault of a header's text under a suite, if it has one.
 pub(crate) fn header_fault(
     alloc: Global,
     text: &str,
     suite: Suite,
 ) -> Result<Option<CipherWhy>, NoMemory>
-    ensures { IfOk result (spec.FaultIs suite text.now) }
+    ensures { IfOk result (λ why. option_map misfit_view why ≡ spec.header_misfit (suite_view suite) (spec.members_if (spec.header_in text.now))) }
 {
-    match read_header(alloc, text) {
-        Ok(map) => Ok(fault_of(&map, suite)),
-        Err(HeaderFault::NoHeader) => Ok(Some(CipherWhy::Alg)),
-        Err(HeaderFault::NoMemory) => Err(NoMemory),
-    }
+    let header = read_header(alloc, text)?;
+    Ok(fault_in(header.as_ref(), suite))
 }
 
 // The compact text of the header that is written.
 #[tactic(auto, unfolding(json::specs::Print::escape_byte))]
 fn compact_header(suite: Suite) -> &'static str
-    ensures { result.now ≡ spec.compact_header suite }
+    ensures { result.now ≡ spec.compact_header (suite_view suite) }
 {
     match suite {
         Suite::A128Gcm => "{\"alg\":\"dir\",\"enc\":\"A128GCM\"}",
@@ -115,7 +108,7 @@ fn compact_header(suite: Suite) -> &'static str
 
 // The text of the header that is written.
 pub(crate) fn header_text(alloc: Global, suite: Suite) -> Result<Text, NoMemory>
-    ensures { IfOk result (λ t. t ≡ spec.header_text suite) }
+    ensures { IfOk result (λ t. t ≡ spec.header_text (suite_view suite)) }
 {
     base64url_text(alloc, compact_header(suite).as_bytes())
 }

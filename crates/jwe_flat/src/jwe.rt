@@ -1,7 +1,7 @@
 //! A JWE and its additional data.
 
 ghost use Rattle.std.specs.Prelude.{◌≡◌, IfOk, string_bytes};
-ghost use Rattle.jwe_flat.specs.Sealing.{before_aad};
+ghost use Rattle.spec_sealing.specs.Jwe.{before_aad};
 
 use n32_values::{Bytes, NoMemory, Text};
 use std::alloc::Global;

@@ -1,7 +1,8 @@
 //! Suites and keys of content encryption.
 
 ghost use Rattle.std.specs.Prelude.{◌≡◌};
-ghost use Rattle.jwe_flat.specs.Keys.{content_cipher, suite_name, suite_of};
+ghost use Rattle.spec_sealing.specs.Suites.{content_cipher, suite_name, suite_of};
+ghost use Rattle.jwe_flat.specs.View.{content_key_view, suite_view};
 
 use aes_block::{BlockKey, Key128, Key256};
 
@@ -17,7 +18,7 @@ pub enum Suite {
 impl Suite {
     /// Its name, which a header has as `enc` (RFC 7518, section 5.1).
     pub fn name(self) -> &'static str
-        ensures { result.now ≡ suite_name self }
+        ensures { result.now ≡ suite_name (suite_view self) }
     {
         match self {
             Suite::A128Gcm => "A128GCM",
@@ -38,7 +39,7 @@ pub enum ContentKey {
 impl ContentKey {
     /// The suite that the key is of.
     pub fn suite(&self) -> Suite
-        ensures { result ≡ suite_of self.now }
+        ensures { suite_view result ≡ suite_of (content_key_view self.now) }
     {
         match self {
             ContentKey::Aes128(_) => Suite::A128Gcm,
@@ -48,7 +49,7 @@ impl ContentKey {
 }
 
 impl BlockKey for ContentKey {
-    ghost cipher = { content_cipher };
+    ghost cipher = { λ key. content_cipher (content_key_view key) };
 
     fn encrypt_block(&self, block: [u8; 16]) -> [u8; 16] {
         match self {

@@ -5,7 +5,6 @@
 mod header;
 mod jwe;
 mod key;
-mod laws;
 mod opening;
 mod read;
 mod sealing;
@@ -13,7 +12,6 @@ mod write;
 
 pub use jwe::FlatJwe;
 pub use key::{ContentKey, Suite};
-pub use laws::{jwe_is_read_by_its_members, sealed_jwe_opens, written_jwe_is_read};
 pub use opening::{CipherWhy, JweOpen, open_jwe};
 pub use read::{JweMember, JweRead, read_jwe};
 pub use sealing::seal_jwe;

@@ -1,7 +1,8 @@
 //! Opening a JWE.
 
-ghost use Rattle.std.specs.Prelude.{◌≡◌, IfOk, IfErr};
-ghost use Rattle.jwe_flat.specs.Sealing.{IsAllowed, IsRefused, Opens};
+ghost use Rattle.spec_documents.specs.Gives.{Gives};
+ghost use Rattle.spec_sealing.specs.Jwe.{opens};
+ghost use Rattle.jwe_flat.specs.View.{content_key_view, jwe_view, shut_told};
 
 use crate::header::header_fault;
 use crate::jwe::{FlatJwe, before_aad};
@@ -51,10 +52,9 @@ impl From<NoMemory> for JweOpen {
 ///
 /// `Cipher` comes exactly where the header has a fault, and names the first in the order of
 /// `CipherWhy`. `Integrity` comes exactly where it has none and the tag is another one.
+#[tactic(auto, unfolding(spec_documents::specs::Chain::chains))]
 pub fn open_jwe(alloc: Global, jwe: &FlatJwe, key: &ContentKey) -> Result<Bytes, JweOpen>
-    ensures opened { IfOk result (Opens jwe.now key.now) }
-    ensures allowed { IfOk result (λ _. IsAllowed jwe.now key.now) }
-    ensures refused { IfErr result (IsRefused jwe.now key.now) }
+    ensures { Gives shut_told (λ plain. plain) result (opens (content_key_view key.now) (jwe_view jwe.now)) }
 {
     if let Some(why) = header_fault(alloc, jwe.protected.as_str(), key.suite())? {
         return Err(JweOpen::Cipher(why));

@@ -1,20 +1,20 @@
 //! Reading a JWE out of its document.
 
-ghost use Rattle.std.specs.Prelude.{◌≡◌, ℕ, List, length, codes, None, IsTrue, IfOk, IfErr, OnOk, OnErr};
-ghost use Rattle.spec_documents.specs.Tree.{get_member, members};
-ghost use Rattle.n32_values.specs.View.{tree_of};
-ghost use Rattle.jwe_flat.specs.Form as spec;
+ghost use Rattle.std.specs.Prelude.{◌≡◌, length, codes};
+ghost use Rattle.spec_documents.specs.Base64url.{bytes_of};
+ghost use Rattle.spec_documents.specs.Gives.{Gives};
+ghost use Rattle.spec_messages.specs.Message.{any_text, text_at, wanted};
+ghost use Rattle.spec_sealing.specs.Header.{header_in};
+ghost use Rattle.spec_sealing.specs.Jwe as spec;
+ghost use Rattle.jwe_flat.specs.View.{jwe_view, member_name, member_told};
 
-use crate::header::{HeaderFault, has_text, read_header};
+use crate::header::{has_text, read_header};
 use crate::jwe::FlatJwe;
 use doc_forms::{Grammar, text_at};
-use n32_values::{
-    B64Fault, Bytes, NoMemory, Node, NodeMap, Text, base64url_tells_bytes_apart, read_base64url,
-};
+use n32_values::{B64Fault, Bytes, NoMemory, NodeMap, Text, read_base64url};
 use std::alloc::Global;
 
-/// The members of a JWE's document (RFC 7516, section 7.2.2). They are asked in this order, after
-/// `Whole`.
+/// The members of a JWE's document (RFC 7516, section 7.2.2). They are asked in this order.
 #[derive(Clone, Copy, Debug, PartialEq, Eq, Drop)]
 pub enum JweMember {
     /// `protected` isn't base64url of a JSON object.
@@ -33,11 +33,9 @@ pub enum JweMember {
     Unprotected,
     /// `header` is there.
     Header,
-    /// The document is no object. This is asked first.
-    Whole,
 }
 
-/// Why a document isn't read to a JWE.
+/// Why an object isn't read to a JWE.
 #[derive(Clone, Copy, Debug, PartialEq, Eq, Drop)]
 pub enum JweRead {
     /// The first member that has not its form.
@@ -59,8 +57,7 @@ impl From<NoMemory> for JweRead {
 
 // The bytes of a member that is base64url.
 fn read_bytes(alloc: Global, map: &NodeMap, name: &str, member: JweMember) -> Result<Bytes, JweRead>
-    ensures ok { IfOk result (spec.HasBytes name.now map.now) }
-    ensures refused { IfErr result (spec.Names member ((b : List ℕ) × spec.HasBytes name.now map.now b)) }
+    ensures { Gives member_told (λ b. b) result (wanted (spec.bytes_at name.now map.now) (member_name member)) }
 {
     let Some(text) = text_at(map, name, Grammar::Any) else {
         return Err(JweRead::Form(member));
@@ -80,10 +77,8 @@ fn fill_bytes(
     member: JweMember,
     out: &mut [u8],
 ) -> Result<(), JweRead>
-    ensures ok { OnOk result (spec.HasCount name.now (length out.old) map.now out.new) }
-    ensures refused { IfErr result (spec.Names member ((b : List ℕ) × spec.HasCount name.now (length out.old) map.now b)) }
+    ensures { Gives member_told (λ _. out.new) result (wanted (spec.if_so_many (length out.old) (spec.bytes_at name.now map.now)) (member_name member)) }
 {
-    base64url_tells_bytes_apart();
     let bytes = read_bytes(alloc, map, name, member)?;
     if bytes.as_slice().len() != out.len() {
         return Err(JweRead::Form(member));
@@ -94,28 +89,29 @@ fn fill_bytes(
 
 // The text of `aad`, which is base64url.
 fn read_aad(alloc: Global, map: &NodeMap) -> Result<Text, JweRead>
-    ensures ok { IfOk result (spec.HasText (codes "aad") map.now) }
-    ensures refused { IfErr result (spec.Names JweMember.Aad (spec.HasForm JweMember.Aad (members map.now))) }
+    ensures { Gives member_told (λ t. t) result (wanted (spec.text_with bytes_of (text_at any_text (codes "aad") map.now)) (codes "aad")) }
 {
-    let _bytes = read_bytes(alloc, map, "aad", JweMember::Aad)?;
-    match text_at(map, "aad", Grammar::Any) {
-        Some(text) => Ok(Text::from_text(alloc, text)?),
-        None => Err(JweRead::Form(JweMember::Aad)),
+    let Some(text) = text_at(map, "aad", Grammar::Any) else {
+        return Err(JweRead::Form(JweMember::Aad));
+    };
+    match read_base64url(alloc, text) {
+        Ok(_bytes) => Ok(Text::from_text(alloc, text)?),
+        Err(B64Fault::NotText) => Err(JweRead::Form(JweMember::Aad)),
+        Err(B64Fault::NoMemory) => Err(JweRead::NoMemory),
     }
 }
 
 // The text of `protected`, which is a header's.
 fn read_protected(alloc: Global, map: &NodeMap) -> Result<Text, JweRead>
-    ensures ok { IfOk result (spec.HasHeader map.now) }
-    ensures refused { IfErr result (spec.Names JweMember.Protected (spec.HasForm JweMember.Protected (members map.now))) }
+    ensures { Gives member_told (λ t. t) result (wanted (spec.text_with header_in (text_at any_text (codes "protected") map.now)) (codes "protected")) }
 {
     let Some(text) = text_at(map, "protected", Grammar::Any) else {
         return Err(JweRead::Form(JweMember::Protected));
     };
     match read_header(alloc, text) {
-        Ok(_header) => Ok(Text::from_text(alloc, text)?),
-        Err(HeaderFault::NoHeader) => Err(JweRead::Form(JweMember::Protected)),
-        Err(HeaderFault::NoMemory) => Err(JweRead::NoMemory),
+        Ok(Some(_header)) => Ok(Text::from_text(alloc, text)?),
+        Ok(None) => Err(JweRead::Form(JweMember::Protected)),
+        Err(NoMemory) => Err(JweRead::NoMemory),
     }
 }
 
@@ -126,10 +122,13 @@ fn has_no_key(map: &NodeMap) -> bool
     map.get("encrypted_key").is_none() || has_text(map, "encrypted_key", "")
 }
 
-// The JWE of an object.
-fn read_members(alloc: Global, map: &NodeMap) -> Result<FlatJwe, JweRead>
-    ensures ok { IfOk result (spec.ReadsJwe (members map.now)) }
-    ensures refused { IfErr result (spec.IsRefused (members map.now)) }
+/// Reads the JWE that an object is of. The texts of `protected` and `aad` are kept as they stand.
+/// Other members are ignored.
+///
+/// `Form` names the first member that has not its form, in the order of `JweMember`.
+#[tactic(auto, unfolding(spec_documents::specs::Chain::chains))]
+pub fn read_jwe(alloc: Global, map: &NodeMap) -> Result<FlatJwe, JweRead>
+    ensures { Gives member_told jwe_view result (spec.jwe_in map.now) }
 {
     let protected = read_protected(alloc, map)?;
     let aad = read_aad(alloc, map)?;
@@ -154,18 +153,4 @@ fn read_members(alloc: Global, map: &NodeMap) -> Result<FlatJwe, JweRead>
         ciphertext,
         tag,
     })
-}
-
-/// Reads the JWE that a document is of. The texts of `protected` and `aad` are kept as they stand.
-/// Other members are ignored.
-///
-/// `Form` names the first member that has not its form, in the order of `JweMember` with `Whole` first.
-pub fn read_jwe(alloc: Global, node: &Node) -> Result<FlatJwe, JweRead>
-    ensures ok { IfOk result (spec.ReadsJwe (tree_of node.now)) }
-    ensures refused { IfErr result (spec.IsRefused (tree_of node.now)) }
-{
-    match node {
-        Node::Members(map) => read_members(alloc, map),
-        _ => Err(JweRead::Form(JweMember::Whole)),
-    }
 }

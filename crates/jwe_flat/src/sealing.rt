@@ -1,7 +1,8 @@
 //! Sealing a block and values.
 
 ghost use Rattle.std.specs.Prelude.{◌≡◌, IfOk};
-ghost use Rattle.jwe_flat.specs.Sealing.{JweOf};
+ghost use Rattle.spec_sealing.specs.Jwe.{sealed};
+ghost use Rattle.jwe_flat.specs.View.{content_key_view, jwe_view};
 
 use crate::header::header_text;
 use crate::jwe::{FlatJwe, before_aad};
@@ -19,7 +20,7 @@ pub fn seal_jwe(
     block: &[u8],
     values: &[u8],
 ) -> Result<FlatJwe, NoMemory>
-    ensures { IfOk result (JweOf key.now iv block.now values.now) }
+    ensures { IfOk result (λ w. jwe_view w ≡ sealed (content_key_view key.now) iv block.now values.now) }
 {
     let protected = header_text(alloc, key.suite())?;
     let aad = base64url_text(alloc, block)?;

@@ -3,7 +3,7 @@ use crate::{
     read_jwe, seal_jwe,
 };
 use aes_block::{Key128, Key256};
-use n32_values::{Bytes, Text, doc_text, read_doc};
+use n32_values::{Bytes, Doc, Node, Text, doc_text, read_doc};
 use std::alloc::Global;
 use std::process::Abort;
 use std::test::Fail;
@@ -38,13 +38,21 @@ fn long_key() -> ContentKey {
     ContentKey::Aes256(Key256::new(BYTES))
 }
 
+// The JWE of a document that is an object.
+fn jwe_in(alloc: Global, doc: &Doc) -> Result<FlatJwe, Fail> {
+    let Node::Members(map) = doc.node() else {
+        return Err("no object".into());
+    };
+    Ok(read_jwe(alloc, map)?)
+}
+
 // Seals the block and the values, which gives this document, and opens what is read of it.
 fn seals_as(rt: &impl Abort, alloc: Global, key: &ContentKey, wanted: &str) -> Result<(), Fail> {
     let jwe = seal_jwe(alloc, key, NONCE, BLOCK.as_bytes(), VALUES.as_bytes())?;
     let text = doc_text(alloc, &jwe_doc(alloc, &jwe)?)?;
     assert_eq!(rt; text.as_slice(), wanted.as_bytes());
     let doc = read_doc(alloc, wanted.as_bytes())?;
-    let plain = open_jwe(alloc, &read_jwe(alloc, doc.node())?, key)?;
+    let plain = open_jwe(alloc, &jwe_in(alloc, &doc)?, key)?;
     assert_eq!(rt; plain.as_slice(), VALUES.as_bytes());
     Ok(())
 }
@@ -180,7 +188,10 @@ fn another_key_suite_and_another_tag_are_told_apart(rt: HostRuntime) -> Result<(
 
 fn fault_in(alloc: Global, text: &str) -> Result<Option<JweRead>, Fail> {
     let doc = read_doc(alloc, text.as_bytes())?;
-    match read_jwe(alloc, doc.node()) {
+    let Node::Members(map) = doc.node() else {
+        return Err("no object".into());
+    };
+    match read_jwe(alloc, map) {
         Ok(_) => Ok(None),
         Err(fault) => Ok(Some(fault)),
     }
@@ -190,7 +201,6 @@ fn fault_in(alloc: Global, text: &str) -> Result<Option<JweRead>, Fail> {
 #[test]
 fn the_first_wrong_member_is_named(rt: HostRuntime) -> Result<(), Fail> {
     let alloc = rt.alloc();
-    assert!(rt; fault_in(alloc, "[]")? == Some(JweRead::Form(JweMember::Whole)));
     for (members, wanted) in [
         ("\"x\":1", JweMember::Protected),
         ("\"protected\":{}", JweMember::Protected),

@@ -1,131 +1,278 @@
-use memchr::{memchr, memrchr};
-use n32_values::{Bytes, Text};
+use crate::LockFile;
+use crate::record_front::may_begin_record;
+use memchr::memchr;
+use n32_values::{Bytes, NoMemory, Text};
 use std::alloc::Global;
 use std::fs::{OpenFile, OpenOptions};
-use std::io::{self, BufRead, BufReader, ErrorKind, Read, Seek, SeekFrom, Write};
+use std::io::{self, ErrorKind, Read, Seek, SeekFrom, Write};
 use std::rt::Files;
+
+/// The most bytes that an item may have. No record's text is longer (docs/DECISIONS.md derives it).
+pub const LONGEST_ITEM: usize = 1_114_112;
+
+// How many bytes a read of the file asks for.
+const CHUNK: usize = 65_536;
 
 /// A file of items, one on each line.
 ///
-/// It is opened at its first use, and made where it isn't there. A fault closes it, and the next use opens it anew.
+/// It is opened and locked at its first use, and made where it isn't there. It stays open and locked from then on.
 #[derive(Drop)]
-pub struct LineFile<T: Files + Drop> {
+pub struct LineFile<T: Files + Drop>
+where
+    T::File: LockFile,
+{
     files: T,
     path: Text,
-
-    // The file behind its last whole line, where nothing follows.
-    writer: Option<T::File>,
-    reader: Option<LineReader<T::File>>,
+    room: Room,
+    lines: Option<Lines<T::File>>,
 }
 
-impl<T: Files + Drop> LineFile<T> {
-    /// The file at this path, which isn't opened yet.
-    pub fn new(files: T, path: Text) -> LineFile<T> {
-        LineFile {
+impl<T: Files + Drop> LineFile<T>
+where
+    T::File: LockFile,
+{
+    /// The file at this path, which isn't opened yet. It takes all the memory that its calls work in.
+    pub fn new(files: T, alloc: Global, path: &str) -> Result<LineFile<T>, NoMemory> {
+        Ok(LineFile {
             files,
-            path,
-            writer: None,
-            reader: None,
+            path: Text::from_text(alloc, path)?,
+            room: Room::new(alloc)?,
+            lines: None,
+        })
+    }
+
+    /// Adds an item as the last line, by one write. What stands behind the last whole line is cut off before.
+    ///
+    /// An item is refused that would be read as two, or is longer than one may be.
+    pub fn append(&mut self, item: &[u8]) -> io::Result<()> {
+        if item.len() > LONGEST_ITEM || memchr(b'\n', item).is_some() {
+            return Err(io::Error::from(ErrorKind::InvalidInput));
+        }
+        let mut lines = self.open()?;
+        let result = lines.append(&mut self.room, item);
+        self.lines = Some(lines);
+        result
+    }
+
+    /// The item of that number, or `None` at or past the end, where the file stays as it is. An item that is too long is given as
+    /// an empty one. The file is read in its order, each part once, unless an item is asked for again.
+    pub fn item(&mut self, alloc: Global, number: u64) -> io::Result<Option<Bytes>> {
+        let mut lines = self.open()?;
+        let result = lines.item(alloc, &mut self.room, number);
+        self.lines = Some(lines);
+        result
+    }
+
+    fn open(&mut self) -> io::Result<Lines<T::File>> {
+        match self.lines.take() {
+            Some(lines) => Ok(lines),
+            None => open_lines(&self.files, self.path.as_str()),
+        }
+    }
+}
+
+fn open_lines<T: Files>(files: &T, path: &str) -> io::Result<Lines<T::File>>
+where
+    T::File: LockFile,
+{
+    let mut options = OpenOptions::new();
+    options.read(true).write(true).create(true);
+    let file = options.open(files, path)?;
+    if !file.metadata()?.is_file() {
+        return Err(io::Error::from(ErrorKind::InvalidInput));
+    }
+    file.try_lock()?;
+    Ok(Lines {
+        file,
+        next: 0,
+        place: 0,
+        is_there: false,
+        end: None,
+        is_whole: false,
+    })
+}
+
+// An open file of lines, and how far it was read.
+#[derive(Drop)]
+struct Lines<F: Read + Write + Seek + OpenFile + Drop> {
+    file: F,
+
+    // The number of the line that comes next, and its byte place.
+    next: u64,
+    place: u64,
+
+    // Whether the room has what was read from that place on, and the file stands behind it.
+    is_there: bool,
+
+    // The byte place behind the last whole line, once it was found, and whether nothing follows it.
+    end: Option<u64>,
+    is_whole: bool,
+}
+
+// What stands at a place of a file.
+#[derive(Clone, Copy, Drop)]
+enum Found {
+    // A line, which is in the room.
+    Line,
+    // A line that is longer than an item may be, or longer than it so far.
+    TooLong,
+    // No whole line.
+    End,
+}
+
+impl<F: Read + Write + Seek + OpenFile + Drop> Lines<F> {
+    fn item(&mut self, alloc: Global, room: &mut Room, number: u64) -> io::Result<Option<Bytes>> {
+        if number < self.next {
+            self.next = 0;
+            self.place = 0;
+            self.is_there = false;
+        }
+        for _ in self.next..number {
+            match self.read_next(room)? {
+                Found::Line => {}
+                Found::TooLong => return Err(io::Error::from(ErrorKind::InvalidData)),
+                Found::End => return Ok(None),
+            }
+        }
+        match self.read_next(room)? {
+            Found::Line => Ok(Some(Bytes::from_vec(Vec::from_slice(alloc, &room.line)?))),
+            Found::TooLong => Ok(Some(Bytes::from_vec(Vec::new(alloc)))),
+            Found::End => Ok(None),
         }
     }
 
-    /// Adds an item as the last line. An item that has a newline is refused: it would be read as two.
-    pub fn append(&mut self, item: &[u8]) -> io::Result<()> {
-        if memchr(b'\n', item).is_some() {
-            return Err(io::Error::from(ErrorKind::InvalidInput));
+    fn append(&mut self, room: &mut Room, item: &[u8]) -> io::Result<()> {
+        let end = self.find_end(room)?;
+        if !self.is_whole {
+            self.file.set_len(end)?;
         }
-        let mut writer = match self.writer.take() {
-            Some(writer) => writer,
-            None => open_whole(&self.files, self.path.as_str())?,
-        };
-        writer.write_all(item)?;
-        writer.write_all(b"\n")?;
-        writer.flush()?;
-        self.writer = Some(writer);
+        self.is_whole = false;
+        self.is_there = false;
+        self.file.seek(SeekFrom::Start(end))?;
+        self.file.write_all(room.with_newline(item)?)?;
+        self.file.flush()?;
+        self.is_whole = true;
+        self.end = Some(end.saturating_add(item.len() as u64).saturating_add(1));
         Ok(())
     }
 
-    /// The item of that number, or `None` at or past the end. An item behind the last one read is found without reading
-    /// the file again.
-    pub fn item(&mut self, alloc: Global, number: u64) -> io::Result<Option<Bytes>> {
-        if self.writer.is_none() {
-            self.writer = Some(open_whole(&self.files, self.path.as_str())?);
-        }
-        let mut reader = match self.reader.take() {
-            Some(reader) if reader.next <= number => reader,
-            _ => LineReader {
-                lines: BufReader::new(alloc, open_to_read(&self.files, self.path.as_str())?)?,
-                next: 0,
-            },
-        };
-        let found = reader.item(alloc, number)?;
-        self.reader = Some(reader);
-        Ok(found)
-    }
-}
-
-#[derive(Drop)]
-struct LineReader<F: Read + Drop> {
-    lines: BufReader<F>,
-
-    // The number of the line that comes next.
-    next: u64,
-}
-
-impl<F: Read + Drop> LineReader<F> {
-    // The line of a number that is not behind the next one.
-    fn item(&mut self, alloc: Global, number: u64) -> io::Result<Option<Bytes>> {
-        for skipped in self.next..number {
-            if self.lines.skip_until(b'\n')? == 0 {
-                return Ok(None);
+    // The byte place behind the last whole line.
+    fn find_end(&mut self, room: &mut Room) -> io::Result<u64> {
+        for _ in 0..u64::MAX {
+            if let Some(end) = self.end {
+                return Ok(end);
             }
-            self.next = skipped + 1;
+            if let Found::TooLong = self.read_next(room)? {
+                break;
+            }
         }
-        let mut line = Vec::new(alloc);
-        self.lines.read_until(b'\n', &mut line)?;
-        match line.pop() {
-            None => Ok(None),
-            Some(b'\n') => {
+        Err(io::Error::from(ErrorKind::InvalidData))
+    }
+
+    // Reads the next line, and goes behind it where it isn't too long. Nothing behind the last whole line is one.
+    fn read_next(&mut self, room: &mut Room) -> io::Result<Found> {
+        if self.end == Some(self.place) {
+            return Ok(Found::End);
+        }
+        if !self.is_there {
+            self.file.seek(SeekFrom::Start(self.place))?;
+            room.forget();
+        }
+        self.is_there = false;
+        match room.read_line(&mut self.file)? {
+            Stop::Newline => {
+                let length = room.line.len() as u64;
                 self.next = self.next.saturating_add(1);
-                Ok(Some(Bytes::from_vec(line)))
+                self.place = self.place.saturating_add(length).saturating_add(1);
+                self.is_there = true;
+                Ok(Found::Line)
             }
-            Some(_) => Err(io::Error::from(ErrorKind::UnexpectedEof)),
+            Stop::TooLong => Ok(Found::TooLong),
+            Stop::End => self.end_here(&room.line),
         }
     }
-}
 
-fn open_to_read<T: Files>(files: &T, path: &str) -> io::Result<T::File> {
-    OpenOptions::new().read(true).open(files, path)
-}
-
-// Opens or makes the file, cuts off what stands behind its last whole line, and goes there.
-fn open_whole<T: Files>(files: &T, path: &str) -> io::Result<T::File> {
-    let mut options = OpenOptions::new();
-    options.read(true).write(true).create(true);
-    let mut file = options.open(files, path)?;
-    let end = end_of_lines(&mut file)?;
-    if file.seek(SeekFrom::End(0))? != end {
-        file.set_len(end)?;
-    }
-    file.seek(SeekFrom::Start(end))?;
-    Ok(file)
-}
-
-const ROOM: u64 = 4096;
-
-// The byte place behind the last newline. It is looked for from the end.
-fn end_of_lines<F: Read + Seek>(file: &mut F) -> io::Result<u64> {
-    let mut room = [0u8; ROOM as usize];
-    let mut end = file.seek(SeekFrom::End(0))?;
-    while end > 0 {
-        let start = end.saturating_sub(ROOM);
-        let part = &mut room[..(end - start) as usize];
-        file.seek(SeekFrom::Start(start))?;
-        file.read_exact(part)?;
-        if let Some(i) = memrchr(b'\n', part) {
-            return Ok(start + i as u64 + 1);
+    // The file ends behind these bytes, which no newline follows. Without a whole line it is none of records, unless they may be the
+    // front of one.
+    fn end_here(&mut self, rest: &[u8]) -> io::Result<Found> {
+        if self.place == 0 && !may_begin_record(rest) {
+            return Err(io::Error::from(ErrorKind::InvalidData));
         }
-        end = start;
+        self.end = Some(self.place);
+        self.is_whole = rest.is_empty();
+        Ok(Found::End)
     }
-    Ok(0)
+}
+
+// The memory that a file of lines works in.
+#[derive(Drop)]
+struct Room {
+    // What was read last. What stands from `from` to `to` wasn't taken yet.
+    chunk: Vec<u8>,
+    from: usize,
+    to: usize,
+
+    // The bytes of a line.
+    line: Vec<u8>,
+}
+
+// Where the reading of a line stopped.
+#[derive(Clone, Copy, Drop)]
+enum Stop {
+    Newline,
+    TooLong,
+    End,
+}
+
+impl Room {
+    fn new(alloc: Global) -> Result<Room, NoMemory> {
+        let mut chunk = Vec::with_capacity(alloc, CHUNK)?;
+        chunk.resize(CHUNK, 0)?;
+        Ok(Room {
+            chunk,
+            from: 0,
+            to: 0,
+            line: Vec::with_capacity(alloc, LONGEST_ITEM + 1)?,
+        })
+    }
+
+    fn forget(&mut self) {
+        self.from = 0;
+        self.to = 0;
+    }
+
+    // The item with a newline behind it.
+    fn with_newline(&mut self, item: &[u8]) -> io::Result<&[u8]> {
+        self.line.clear();
+        self.line.extend_from_slice(item)?;
+        self.line.push(b'\n')?;
+        Ok(&self.line)
+    }
+
+    // Reads a line, without its newline, as far as it isn't longer than an item may be.
+    fn read_line<F: Read>(&mut self, file: &mut F) -> io::Result<Stop> {
+        self.line.clear();
+        for _ in 0..u64::MAX {
+            if self.from >= self.to {
+                self.from = 0;
+                self.to = file.read(&mut self.chunk)?;
+                if self.to == 0 {
+                    return Ok(Stop::End);
+                }
+            }
+            let rest = self.chunk.get(self.from..self.to).unwrap_or(&[]);
+            let newline = memchr(b'\n', rest);
+            let count = newline.unwrap_or(rest.len());
+            if self.line.len() + count > LONGEST_ITEM {
+                break;
+            }
+            self.line.extend_from_slice(&rest[..count])?;
+            self.from = self.from.saturating_add(count);
+            if newline.is_some() {
+                self.from = self.from.saturating_add(1);
+                return Ok(Stop::Newline);
+            }
+        }
+        Ok(Stop::TooLong)
+    }
 }

@@ -1,8 +1,11 @@
+ghost use Rattle.std.specs.Prelude.{Some, length, ◌==◌};
+ghost use Rattle.n32_outside.specs.declared.algorithm.JwsAlg.TheVariants.{Hs256};
+
 use crate::{
-    CallList, FailItem, FailList, Failed, FileKeeper, Keeper, MemKeeper, MemSink, MemSource,
-    OutFault, Sink, Source, StdSink, StdSource,
+    CallList, FailAt, FailItem, FailList, Failed, FileKeeper, JwsAlg, Keeper, LockFile, MemKeeper,
+    MemSink, MemSource, OutFault, Signer, Sink, Source, StdSink, StdSource, Verifier,
 };
-use n32_values::Bytes;
+use n32_values::{Bytes, Text};
 use std::alloc::{Allocator, Global};
 use std::fs::{self, Metadata, OpenFile, OpenOptions};
 use std::io::{self, ErrorKind, Read, Seek, SeekFrom, Write};
@@ -88,40 +91,62 @@ fn a_keeper_in_memory_fails_at_its_listed_calls(rt: HostRuntime) -> Result<(), F
     Ok(())
 }
 
-#[test]
-fn a_file_is_made_and_read_again_without_its_unfinished_line(rt: HostRuntime) -> Result<(), Fail> {
-    let alloc = rt.alloc();
-    let path = "kept_items.txt";
-    let mut keeper = FileKeeper::new(&rt, alloc, path).ok().ok_or("memory")?;
-    assert!(rt; is_found(keeper.load(alloc, 0), Ok(None)));
-    for (item, wanted) in [
-        (b"zero".as_slice(), Ok(())),
-        (b"".as_slice(), Ok(())),
-        (b"a\nb".as_slice(), Err(OutFault::Failed)),
-        (b"two".as_slice(), Ok(())),
-    ] {
-        assert!(rt; keeper.put(item) == wanted);
+// Whether the file holds these bytes.
+fn is_held(rt: &HostRuntime, path: &str, wanted: &[u8]) -> bool {
+    match fs::read(rt, path) {
+        Ok(bytes) => bytes.as_slice() == wanted,
+        Err(_) => false,
     }
-    assert!(rt; fs::read(&rt, path)?.as_slice() == b"zero\n\ntwo\n".as_slice());
-    fs::write(&rt, path, "zero\n\ntwo\nunfin")?;
-    let mut again = FileKeeper::new(&rt, alloc, path).ok().ok_or("memory")?;
-    for (number, wanted) in [
-        (0, Ok(Some(b"zero".as_slice()))),
-        (2, Ok(Some(b"two".as_slice()))),
-        (3, Ok(None)),
-        (1, Ok(Some(b"".as_slice()))),
-        (u64::MAX, Ok(None)),
-    ] {
-        assert!(rt; is_found(again.load(alloc, number), wanted));
-    }
-    assert!(rt; again.put(b"three").is_ok());
-    assert!(rt; is_found(again.load(alloc, 3), Ok(Some(b"three".as_slice()))));
-    assert!(rt; fs::read(&rt, path)?.as_slice() == b"zero\n\ntwo\nthree\n".as_slice());
-    fs::remove_file(&rt, path)?;
-    Ok(())
 }
 
-/// A file that takes two bytes at its third write, and fails at the fourth.
+fn is_kept(rt: &HostRuntime, path: &str) -> bool {
+    let alloc = rt.alloc();
+    let Ok(mut keeper) = FileKeeper::new(rt, alloc, path) else {
+        return false;
+    };
+    is_found(keeper.load(alloc, 0), Ok(None))
+        && keeper.put(b"zero").is_ok()
+        && keeper.put(b"").is_ok()
+        && keeper.put(b"a\nb") == Err(OutFault::Failed)
+        && keeper.put(b"two").is_ok()
+}
+
+fn is_locked(rt: &HostRuntime, path: &str) -> bool {
+    let alloc = rt.alloc();
+    let Ok(mut keeper) = FileKeeper::new(rt, alloc, path) else {
+        return false;
+    };
+    is_found(keeper.load(alloc, 0), Err(OutFault::Failed))
+        && keeper.put(b"lost") == Err(OutFault::Failed)
+}
+
+fn is_read_again(rt: &HostRuntime, path: &str) -> bool {
+    let alloc = rt.alloc();
+    let Ok(mut keeper) = FileKeeper::new(rt, alloc, path) else {
+        return false;
+    };
+    is_found(keeper.load(alloc, 0), Ok(Some(b"zero")))
+        && is_found(keeper.load(alloc, 2), Ok(Some(b"two")))
+        && is_found(keeper.load(alloc, u64::MAX), Ok(None))
+        && is_found(keeper.load(alloc, 1), Ok(Some(b"")))
+        && is_locked(rt, path)
+        && is_held(rt, path, b"zero\n\ntwo\nunfin")
+        && keeper.put(b"three").is_ok()
+        && is_found(keeper.load(alloc, 3), Ok(Some(b"three")))
+}
+
+#[test]
+fn a_file_keeps_an_item_a_line_and_its_unfinished_line_until_the_next_put(rt: HostRuntime) {
+    let path = "kept_items.txt";
+    assert!(rt; is_kept(&rt, path));
+    assert!(rt; is_held(&rt, path, b"zero\n\ntwo\n"));
+    assert!(rt; fs::write(&rt, path, "zero\n\ntwo\nunfin").is_ok());
+    assert!(rt; is_read_again(&rt, path));
+    assert!(rt; is_held(&rt, path, b"zero\n\ntwo\nthree\n"));
+    assert!(rt; fs::remove_file(&rt, path).is_ok());
+}
+
+/// A file that takes two bytes at its second write, and fails at the third.
 #[derive(Drop)]
 struct TornFile<F: Drop> {
     file: F,
@@ -138,8 +163,8 @@ impl<F: Write + Drop> Write for TornFile<F> {
     fn write(&mut self, buf: &[u8]) -> io::Result<usize> {
         self.writes = self.writes.saturating_add(1);
         match self.writes {
-            3 => self.file.write(&buf[..buf.len().min(2)]),
-            4 => Err(io::Error::from(ErrorKind::StorageFull)),
+            2 => self.file.write(&buf[..buf.len().min(2)]),
+            3 => Err(io::Error::from(ErrorKind::StorageFull)),
             _ => self.file.write(buf),
         }
     }
@@ -170,6 +195,12 @@ impl<F: OpenFile + Drop> OpenFile for TornFile<F> {
 
     fn sync_data(&self) -> io::Result<()> {
         self.file.sync_data()
+    }
+}
+
+impl<F: LockFile + Drop> LockFile for TornFile<F> {
+    fn try_lock(&self) -> io::Result<()> {
+        self.file.try_lock()
     }
 }
 
@@ -228,40 +259,98 @@ impl<R: Files + Clone + Drop> Files for TornFiles<R> {
     }
 }
 
-#[test]
-fn what_a_failed_put_left_of_its_line_is_cut_off(rt: HostRuntime) -> Result<(), Fail> {
+fn is_mended(rt: &HostRuntime, path: &str) -> bool {
     let alloc = rt.alloc();
-    let path = "torn_items.txt";
-    let files = TornFiles { inner: rt };
-    let mut keeper = FileKeeper::new(files, alloc, path).ok().ok_or("memory")?;
-    for (item, wanted, left) in [
-        (b"zero".as_slice(), Ok(()), b"zero\n".as_slice()),
-        (
-            b"lost".as_slice(),
-            Err(OutFault::Failed),
-            b"zero\nlo".as_slice(),
-        ),
-        (b"one".as_slice(), Ok(()), b"zero\none\n".as_slice()),
-    ] {
-        assert!(rt; keeper.put(item) == wanted);
-        assert!(rt; fs::read(&rt, path)?.as_slice() == left);
-    }
-    assert!(rt; keeper.put(b"lost").is_err());
-    assert!(rt; is_found(keeper.load(alloc, 1), Ok(Some(b"one".as_slice()))));
-    assert!(rt; is_found(keeper.load(alloc, 2), Ok(None)));
-    assert!(rt; fs::read(&rt, path)?.as_slice() == b"zero\none\n".as_slice());
-    fs::remove_file(&rt, path)?;
-    Ok(())
+    let Ok(mut keeper) = FileKeeper::new(TornFiles { inner: rt }, alloc, path) else {
+        return false;
+    };
+    keeper.put(b"zero").is_ok()
+        && keeper.put(b"lost") == Err(OutFault::Failed)
+        && is_found(keeper.load(alloc, 1), Ok(None))
+        && is_held(rt, path, b"zero\nlo")
+        && keeper.put(b"one").is_ok()
+        && is_found(keeper.load(alloc, 1), Ok(Some(b"one")))
 }
 
 #[test]
-fn a_file_that_can_not_be_made_fails_each_call(rt: HostRuntime) -> Result<(), Fail> {
+fn what_a_failed_put_left_of_its_line_is_cut_off_by_the_next(rt: HostRuntime) {
+    let path = "torn_items.txt";
+    assert!(rt; is_mended(&rt, path));
+    assert!(rt; is_held(&rt, path, b"zero\none\n"));
+    assert!(rt; fs::remove_file(&rt, path).is_ok());
+}
+
+#[test]
+fn a_file_that_can_not_be_made_fails_each_call(rt: HostRuntime) {
+    assert!(rt; is_locked(&rt, "no_such_folder/items.txt"));
+}
+
+/// Signs an input by the input itself, and takes a signature of its length for true.
+#[derive(Drop)]
+struct Echo;
+
+impl Signer for Echo {
+    ghost algorithm = { λ _. Hs256 };
+
+    ghost meaning = { λ _. Some (λ alg identity input. input) };
+
+    ghost faults = { λ _. 0 };
+
+    fn alg(&self) -> JwsAlg {
+        JwsAlg::Hs256
+    }
+
+    fn sign(&mut self, alloc: Global, _identity: &Text, input: &[u8]) -> Result<Bytes, OutFault> {
+        Ok(Bytes::from_slice(alloc, input)?)
+    }
+}
+
+impl Verifier for Echo {
+    ghost meaning = { λ _. Some (λ alg identity input signature. length input == length signature) };
+
+    ghost faults = { λ _. 0 };
+
+    fn verify(
+        &mut self,
+        _alloc: Global,
+        _alg: JwsAlg,
+        _identity: &Text,
+        input: &[u8],
+        signature: &[u8],
+    ) -> Result<bool, OutFault> {
+        Ok(input.len() == signature.len())
+    }
+}
+
+fn is_signed(signed: Result<Bytes, OutFault>, wanted: Result<&[u8], OutFault>) -> bool {
+    match (signed, wanted) {
+        (Ok(bytes), Ok(signature)) => bytes.as_slice() == signature,
+        (Err(fault), Err(other)) => fault == other,
+        _ => false,
+    }
+}
+
+#[test]
+fn a_signer_and_a_verifier_fail_at_their_listed_calls(rt: HostRuntime) -> Result<(), Fail> {
     let alloc = rt.alloc();
-    let mut keeper = FileKeeper::new(&rt, alloc, "no_such_folder/items.txt")
-        .ok()
-        .ok_or("memory")?;
-    assert!(rt; keeper.put(b"a") == Err(OutFault::Failed));
-    assert!(rt; is_found(keeper.load(alloc, 0), Err(OutFault::Failed)));
+    let identity = Text::from_text(alloc, "ipx-a").ok().ok_or("memory")?;
+    let mut signer = FailAt::new(Echo, calls(alloc, &[1])?);
+    for wanted in [
+        Ok(b"in".as_slice()),
+        Err(OutFault::Failed),
+        Ok(b"in".as_slice()),
+    ] {
+        assert!(rt; is_signed(signer.sign(alloc, &identity, b"in"), wanted));
+    }
+    assert!(rt; signer.alg() == JwsAlg::Hs256);
+    let mut verifier = FailAt::new(Echo, calls(alloc, &[0])?);
+    for (signature, wanted) in [
+        (b"ab".as_slice(), Err(OutFault::Failed)),
+        (b"ab".as_slice(), Ok(true)),
+        (b"abc".as_slice(), Ok(false)),
+    ] {
+        assert!(rt; verifier.verify(alloc, JwsAlg::Hs256, &identity, b"in", signature) == wanted);
+    }
     Ok(())
 }
 

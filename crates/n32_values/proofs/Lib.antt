@@ -4,8 +4,6 @@ pub mod Lent
 pub mod Reading
 pub mod Depths
 pub mod Written
-pub mod Texts
-pub mod RoundTrip
 pub mod Documents
 pub mod IsTree
 pub mod Hexadecimal

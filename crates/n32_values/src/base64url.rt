@@ -1,7 +1,8 @@
-ghost use Rattle.std.specs.Prelude.{◌≡◌, ◌≢◌, IfOk, List, ℕ, Err, false};
+ghost use Rattle.std.specs.Prelude.{◌≡◌, IfOk, IfErr, List, ℕ, Some};
 ghost use Rattle.base64.specs.Alphabet.{alphabet_symbols};
-ghost use Rattle.base64.specs.GeneralPurpose.{IsBytes, IsStrict, encode_of};
-ghost use Rattle.n32_values.specs.Base64url.{base64url};
+ghost use Rattle.base64.specs.GeneralPurpose.{IsStrict, encode_of};
+ghost use Rattle.spec_documents.specs.Base64url.{base64url, bytes_of};
+ghost use Rattle.n32_values.specs.Faults.{NoBytes};
 
 use crate::bytes::Bytes;
 use crate::memory::NoMemory;
@@ -9,6 +10,7 @@ use crate::text::Text;
 use base64::DecodeAllocError;
 use base64::alphabet::Alphabet;
 use base64::engine::general_purpose::{GeneralPurpose, NO_PAD};
+use spec_documents::readings::texts_have_their_bytes;
 use std::alloc::Global;
 use thiserror::Error;
 
@@ -34,10 +36,10 @@ pub fn base64url_text(alloc: Global, bytes: &[u8]) -> Result<Text, NoMemory>
 
 /// The bytes whose base64url text (RFC 4648 section 5) a text is. Padding, another length and bits left over are `NotText`.
 pub fn read_base64url(alloc: Global, text: &str) -> Result<Bytes, B64Fault>
-    ensures ok { IfOk result (λ b. text.now ≡ base64url b) }
-    ensures bytes { IfOk result IsBytes }
-    ensures not_text { result ≡ Err B64Fault.NotText → (b : List ℕ) → IsBytes b → text.now ≢ base64url b }
+    ensures ok { IfOk result (λ b. bytes_of text.now ≡ Some b) }
+    ensures none { IfErr result (λ why. NoBytes why (bytes_of text.now)) }
 {
+    texts_have_their_bytes();
     match engine().decode(alloc, text.as_bytes()) {
         Ok(bytes) => Ok(Bytes::from_vec(bytes)),
         Err(DecodeAllocError::DecodeError(_)) => Err(B64Fault::NotText),
@@ -53,8 +55,3 @@ fn engine() -> GeneralPurpose
     let alphabet = Alphabet::new(SYMBOLS).unwrap();
     GeneralPurpose::new(&alphabet, NO_PAD)
 }
-
-/// Different bytes have different base64url texts.
-pub fn base64url_tells_bytes_apart()
-    ensures { (a b : List ℕ) → IsBytes a → IsBytes b → base64url a ≡ base64url b → a ≡ b }
-{}

@@ -16,7 +16,7 @@ mod text;
 mod whole;
 mod write;
 
-pub use base64url::{B64Fault, base64url_tells_bytes_apart, base64url_text, read_base64url};
+pub use base64url::{B64Fault, base64url_text, read_base64url};
 pub use bytes::Bytes;
 pub use doc::Doc;
 pub use ids::{Hex64, hex64_text, read_hex64};

@@ -1,12 +1,13 @@
 ghost use Rattle.spec_documents.specs.Tree.{is_tree, items as items_tree, members as members_tree, whole};
-ghost use Rattle.std.specs.Prelude.{IsTrue, IfSome, ◌≡◌, ◌≢◌, Some, None, IfOk};
+ghost use Rattle.std.specs.Prelude.{IsTrue, IfSome, ◌≡◌, ◌≢◌, Some, None, IfOk, IfErr};
 ghost use Rattle.serde_json.specs.View.{view, number_view, items_view, members_view};
 ghost use Rattle.serde_json.specs.Data.{Data};
 ghost use Rattle.serde_json.specs.Errors.{IsMemory};
 ghost use Rattle.serde_json.specs.Find.{as_integer};
 ghost use Rattle.spec_documents.specs.Tree.{trees};
 ghost use Rattle.n32_values.specs.View.{tree_of};
-ghost use Rattle.n32_values.specs.Reading.{tree_from, trees_from, members_from, HasReading, ReadsTo, HasOtherNumber};
+ghost use Rattle.spec_documents.specs.Reading.{tree_from, trees_from, members_from, HasReading, ReadsTo, HasOtherNumber, document_of};
+ghost use Rattle.n32_values.specs.Faults.{NoDocument};
 
 use crate::doc::Doc;
 use crate::memory::NoMemory;
@@ -14,6 +15,7 @@ use crate::node::{Node, NodeList, NodeMap};
 use crate::text::Text;
 use crate::whole::Whole;
 use serde_json::{Error, Map, Number, Value};
+use spec_documents::readings::documents_are_read;
 use std::alloc::Global;
 use thiserror::Error;
 
@@ -114,7 +116,10 @@ pub fn read_doc(alloc: Global, bytes: &[u8]) -> Result<Doc, DocFault>
     ensures tree { IfOk result (ReadsTo bytes.now) }
     ensures syntax { result ≡ Err DocFault.Syntax → (d : Data) → HasReading bytes.now d → ⊥ }
     ensures number { result ≡ Err DocFault.Number → HasOtherNumber bytes.now }
+    ensures document { IfOk result (λ d. document_of bytes.now ≡ Some d) }
+    ensures none { IfErr result (λ why. NoDocument why (document_of bytes.now)) }
 {
+    documents_are_read();
     let value = match Value::from_slice(alloc, bytes) {
         Ok(value) => value,
         Err(error) => return Err(fault_of(&error)),

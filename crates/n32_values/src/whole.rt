@@ -14,7 +14,7 @@ pub struct Whole {
 
 impl Model for Whole {
     ghost use Rattle.std.specs.Prelude.{ℤ};
-    ghost use Rattle.n32_values.specs.Whole.{IsWhole};
+    ghost use Rattle.spec_documents.specs.Whole.{IsWhole};
 
     ghost Value = { ℤ };
 
@@ -26,7 +26,7 @@ impl Model for Whole {
 }
 
 impl Whole {
-    ghost use Rattle.n32_values.specs.Whole.{IsWhole};
+    ghost use Rattle.spec_documents.specs.Whole.{IsWhole};
 
     /// The whole number of this value, or `None` exactly outside the range.
     pub fn new(value: i128) -> Option<Whole>

@@ -1,11 +1,11 @@
 ghost use Rattle.std.specs.Prelude.{◌≡◌, ◌≤◌, ◌++◌, IfOk, OnOk};
 ghost use Rattle.spec_documents.specs.Tree.{whole, items, members, trees, depth as nesting};
-ghost use Rattle.n32_values.specs.Whole.{IsWhole};
-ghost use Rattle.n32_values.specs.Document.{IsDocument};
-ghost use Rattle.n32_values.specs.Reading.{ReadsTo};
+ghost use Rattle.spec_documents.specs.Whole.{IsWhole};
+ghost use Rattle.spec_documents.specs.Document.{IsDocument};
+ghost use Rattle.spec_documents.specs.Reading.{ReadsTo};
 ghost use Rattle.n32_values.specs.View.{tree_of};
 ghost use Rattle.spec_documents.specs.Compact.{compact_text};
-ghost use Rattle.n32_values.specs.Tokens.{tree_tokens, items_tokens, members_tokens};
+ghost use Rattle.spec_documents.specs.Tokens.{tree_tokens, items_tokens, members_tokens};
 
 use crate::bytes::Bytes;
 use crate::memory::NoMemory;

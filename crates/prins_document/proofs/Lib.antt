@@ -1,2 +1,2 @@
-pub mod Refusing
-pub mod Receiving
+pub mod Entries
+pub mod Values

@@ -1,3 +1,2 @@
-pub mod Form
+pub mod View
 pub mod Route
-pub mod Parts

@@ -1,22 +1,34 @@
 // The block, which is the additional data of the JWE.
-ghost use Rattle.std.specs.Prelude.{◌≡◌, IfOk, IfErr, Some, None, codes};
-ghost use Rattle.spec_documents.specs.Tree.{Tree};
-ghost use Rattle.n32_values.specs.Reading.{ReadsTo};
+ghost use Rattle.std.specs.Prelude.{◌≡◌, IfOk, IsTrue, codes, option_and_then};
+ghost use Rattle.spec_documents.specs.Base64url.{bytes_of};
+ghost use Rattle.spec_documents.specs.Gives.{Gives};
+ghost use Rattle.spec_documents.specs.Ids.{hex_after};
+ghost use Rattle.spec_documents.specs.Reading.{document_of};
+ghost use Rattle.spec_documents.specs.Text.{is_id};
+ghost use Rattle.spec_messages.specs.Block.{is_meta};
+ghost use Rattle.spec_messages.specs.Message.{wanted};
+ghost use Rattle.spec_sealing.specs.Received as spec;
 ghost use Rattle.block_forms.specs.Metadata.{meta_in, meta_view};
 ghost use Rattle.http_message.specs.Reading.{kind_view};
-ghost use Rattle.prins_document.specs.Form as spec;
+ghost use Rattle.prins_document.specs.View.{part_told};
 
 use crate::document::{WireMember, WireRead};
 use block_forms::{Meta, MetaRead, read_meta};
 use http_message::Kind;
 use n32_values::{
-    B64Fault, Doc, DocFault, Node, base64url_tells_bytes_apart, read_base64url, read_doc,
+    B64Fault, Doc, DocFault, Hex64, Node, Text, read_base64url, read_doc, read_hex64,
 };
 use std::alloc::Global;
 
+// A block, and its `metaData`.
+#[derive(Drop)]
+pub(crate) struct Block {
+    pub(crate) doc: Doc,
+    pub(crate) meta: Meta,
+}
+
 fn read_bytes(alloc: Global, bytes: &[u8]) -> Result<Doc, WireRead>
-    ensures ok { IfOk result (ReadsTo bytes.now) }
-    ensures refused { IfErr result (spec.NamesBlock ((b : Tree) × ReadsTo bytes.now b)) }
+    ensures { Gives part_told (λ d. d) result (wanted (document_of bytes.now) (codes "aad")) }
 {
     match read_doc(alloc, bytes) {
         Ok(block) => Ok(block),
@@ -27,11 +39,9 @@ fn read_bytes(alloc: Global, bytes: &[u8]) -> Result<Doc, WireRead>
 }
 
 // The document whose bytes a base64url text is of.
-pub(crate) fn read_block(alloc: Global, aad: &str) -> Result<Doc, WireRead>
-    ensures ok { IfOk result (spec.ReadsAad aad.now) }
-    ensures refused { IfErr result (spec.NamesBlock ((b : Tree) × spec.ReadsAad aad.now b)) }
+fn read_text(alloc: Global, aad: &str) -> Result<Doc, WireRead>
+    ensures { Gives part_told (λ d. d) result (wanted (option_and_then document_of (bytes_of aad.now)) (codes "aad")) }
 {
-    base64url_tells_bytes_apart();
     match read_base64url(alloc, aad) {
         Ok(bytes) => read_bytes(alloc, bytes.as_slice()),
         Err(B64Fault::NotText) => Err(WireRead::Form(WireMember::Block)),
@@ -40,9 +50,8 @@ pub(crate) fn read_block(alloc: Global, aad: &str) -> Result<Doc, WireRead>
 }
 
 // The `metaData` of a block.
-pub(crate) fn read_block_meta(alloc: Global, block: &Doc) -> Result<Meta, WireRead>
-    ensures ok { IfOk result (λ meta. meta_in block.now ≡ Some (meta_view meta)) }
-    ensures refused { IfErr result (spec.NamesBlock ((b : Tree) × (b ≡ block.now) × spec.HasMeta b)) }
+fn read_block_meta(alloc: Global, block: &Doc) -> Result<Meta, WireRead>
+    ensures { Gives part_told meta_view result (wanted (meta_in block.now) (codes "aad")) }
 {
     match read_meta(alloc, block) {
         Ok(meta) => Ok(meta),
@@ -51,9 +60,28 @@ pub(crate) fn read_block_meta(alloc: Global, block: &Doc) -> Result<Meta, WireRe
     }
 }
 
+// The block of an `aad` text, which has its `metaData`.
+pub(crate) fn read_block(alloc: Global, aad: &str) -> Result<Block, WireRead>
+    ensures block { Gives part_told (λ b. b.doc) result (wanted (spec.block_in aad.now) (codes "aad")) }
+    ensures meta { IfOk result (λ b. spec.metadata_of b.doc ≡ meta_view b.meta) }
+    ensures grammar { IfOk result (λ b. IsTrue (is_meta (meta_view b.meta))) }
+{
+    let doc = read_text(alloc, aad)?;
+    let meta = read_block_meta(alloc, &doc)?;
+    Ok(Block { doc, meta })
+}
+
+// The id that a text in the grammar is.
+pub(crate) fn id_of(text: &Text) -> Hex64
+    requires { IsTrue (is_id text.now) }
+    ensures { result.value ≡ hex_after 0 text.now }
+{
+    read_hex64(text.as_str()).unwrap()
+}
+
 // A response has a member `statusLine`.
 pub(crate) fn kind_of(block: &Doc) -> Kind
-    ensures { kind_view result ≡ spec.kind_of block.now }
+    ensures { kind_view result ≡ spec.kind_in block.now }
 {
     match block.node() {
         Node::Members(map) => if map.get("statusLine").is_some() {

@@ -1,14 +1,18 @@
 // The whole document.
-ghost use Rattle.std.specs.Prelude.{◌≡◌, IfOk, IfErr, option_map};
+ghost use Rattle.std.specs.Prelude.{◌≡◌, [], is_some, option_map, unwrap_or, codes};
+ghost use Rattle.spec_documents.specs.Gives.{Gives};
+ghost use Rattle.spec_documents.specs.Tree.{get_member, items_in};
+ghost use Rattle.spec_messages.specs.Message.{wanted};
 ghost use Rattle.n32_values.specs.View.{tree_of};
-ghost use Rattle.prins_document.specs.Form as spec;
+ghost use Rattle.spec_sealing.specs.Received.{entries_in, received};
+ghost use Rattle.prins_document.specs.View.{entries_of, part_told, wire_view};
 
-use crate::block::{kind_of, read_block, read_block_meta};
-use crate::data::{read_data, reformatted};
+use crate::block::{Block, id_of, kind_of, read_block};
+use crate::data::{data_in, members_in, read_data};
 use block_forms::Meta;
 use http_message::Kind;
-use jwe_flat::{FlatJwe, JweMember, jwe_is_read_by_its_members};
-use n32_values::{Doc, NoMemory, Node, NodeList, base64url_tells_bytes_apart};
+use jwe_flat::{FlatJwe, JweMember};
+use n32_values::{Doc, Hex64, NoMemory, Node, NodeList, NodeMap, Text};
 use std::alloc::Global;
 
 /// What a reformatted document holds.
@@ -18,8 +22,12 @@ pub struct WireDoc {
     pub jwe: FlatJwe,
     /// The document that the bytes of `aad` are.
     pub block: Doc,
-    /// The `metaData` of the block.
-    pub meta: Meta,
+    /// The receiver's context.
+    pub context: Hex64,
+    /// The message in the context.
+    pub message: Hex64,
+    /// The intermediary that may modify the message, or `null`.
+    pub authorized: Text,
     /// A response exactly where the block has a member `statusLine`.
     pub kind: Kind,
 }
@@ -62,7 +70,7 @@ impl From<NoMemory> for WireRead {
 
 #[tactic(auto, using(spec_documents::proofs::FieldLemmas::views))]
 fn list_in(node: Option<&Node>) -> Option<&NodeList>
-    ensures { option_map (λ l. l.now) result ≡ spec.list_in (option_map (λ n. tree_of n.now) node.entry) }
+    ensures { option_map (λ l. l.now) result ≡ items_in (option_map (λ n. tree_of n.now) node.entry) }
 {
     match node {
         Some(Node::Items(list)) => Some(list),
@@ -73,7 +81,7 @@ fn list_in(node: Option<&Node>) -> Option<&NodeList>
 /// The entries of a document: its member `modificationsBlock`, or `None` exactly where that is absent or
 /// no list. It takes no memory.
 pub fn entries(doc: &Doc) -> Option<&NodeList>
-    ensures { option_map (λ l. l.now) result ≡ spec.entries_of doc.now }
+    ensures { option_map (λ l. l.now) result ≡ entries_of doc.now }
 {
     match doc.node() {
         Node::Members(map) => list_in(map.get("modificationsBlock")),
@@ -83,12 +91,9 @@ pub fn entries(doc: &Doc) -> Option<&NodeList>
 
 // Whether the entries are absent, null, or a list of at most two.
 #[tactic(auto, using(spec_documents::proofs::FieldLemmas::views))]
-fn has_entries(node: &Node) -> bool
-    ensures { result ≡ spec.has_entries (tree_of node.now) }
+fn has_entries(map: &NodeMap) -> bool
+    ensures { result ≡ is_some (entries_in (get_member (codes "modificationsBlock") map.now)) }
 {
-    let Node::Members(map) = node else {
-        return true;
-    };
     match map.get("modificationsBlock") {
         None | Some(Node::Null) => true,
         Some(Node::Items(list)) => list.len() <= 2,
@@ -96,28 +101,43 @@ fn has_entries(node: &Node) -> bool
     }
 }
 
+// Refuses entries out of their form.
+#[tactic(auto, using(crate::proofs::Entries::listed_entries))]
+fn check_entries(map: &NodeMap) -> Result<(), WireRead>
+    ensures { Gives part_told (λ _. unwrap_or (items_in (get_member (codes "modificationsBlock") map.now)) []) result (wanted (entries_in (get_member (codes "modificationsBlock") map.now)) (codes "modificationsBlock")) }
+{
+    if has_entries(map) {
+        Ok(())
+    } else {
+        Err(WireRead::Form(WireMember::ModificationsBlock))
+    }
+}
+
 /// Reads a reformatted document: `{"reformattedData":{..},"modificationsBlock":[..]}`, where
 /// `reformattedData` is a flattened JWE. Other members are ignored, and the entries aren't read.
 ///
 /// `Form` names the first part that has not its form, in the order of `WireMember`.
+#[tactic(auto, unfolding(spec_documents::specs::Chain::chains))]
 pub fn read_wire_doc(alloc: Global, doc: &Doc) -> Result<WireDoc, WireRead>
-    ensures ok { IfOk result (spec.ReadsWire doc.now) }
-    ensures refused { IfErr result (spec.IsRefused doc.now) }
+    ensures { Gives part_told (wire_view doc.now) result (received doc.now) }
 {
-    jwe_is_read_by_its_members();
-    base64url_tells_bytes_apart();
-    let data = reformatted(doc.node())?;
+    let map = members_in(doc.node())?;
+    let data = data_in(map)?;
     let jwe = read_data(alloc, data)?;
-    let block = read_block(alloc, jwe.aad.as_str())?;
-    let meta = read_block_meta(alloc, &block)?;
-    if !has_entries(doc.node()) {
-        return Err(WireRead::Form(WireMember::ModificationsBlock));
-    }
+    let Block { doc: block, meta } = read_block(alloc, jwe.aad.as_str())?;
+    check_entries(map)?;
+    let Meta {
+        context,
+        message,
+        ipx,
+    } = meta;
     let kind = kind_of(&block);
     Ok(WireDoc {
         jwe,
         block,
-        meta,
+        context: id_of(&context),
+        message: id_of(&message),
+        authorized: ipx,
         kind,
     })
 }

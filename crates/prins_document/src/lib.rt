@@ -5,14 +5,16 @@
 mod block;
 mod data;
 mod document;
-mod laws;
 mod rows;
+mod values;
 mod write;
 
 pub use document::{WireDoc, WireMember, WireRead, entries, read_wire_doc};
-pub use laws::documents_are_received;
 pub use rows::route_rows;
+pub use values::{ValuesRead, read_values, values_text};
 pub use write::wire_doc;
 
 #[cfg(test)]
 mod tests;
+#[cfg(test)]
+mod value_tests;

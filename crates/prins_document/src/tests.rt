@@ -139,7 +139,8 @@ fn a_document_is_read_and_written(rt: HostRuntime) -> Result<(), Fail> {
         };
         written_again(&rt, alloc, &whole, data.as_str())?;
         assert!(rt; whole.kind == kind);
-        assert_eq!(rt; whole.meta.ipx.as_str(), ipx);
+        assert_eq!(rt; whole.authorized.as_str(), ipx);
+        assert!(rt; whole.message.value == 0xb1 && whole.context.value == 0xa1);
     }
     Ok(())
 }

@@ -5,8 +5,9 @@ use Rattle.spec_documents.specs.Tree.{Tree}
 use Rattle.spec_messages.specs.Message.{wanted}
 use Rattle.spec_records.specs.Records.{Record, delivered_at}
 use Rattle.spec_exchange.specs.Chain.{◌>>=◌, unless, none_of, or_refused}
-use Rattle.spec_exchange.specs.Jwe.{content_key, misfit}
-use Rattle.spec_exchange.specs.Received.{received}
+use Rattle.spec_sealing.specs.Suites.{content_key}
+use Rattle.spec_sealing.specs.Jwe.{misfit}
+use Rattle.spec_sealing.specs.Received.{received}
 use Rattle.spec_exchange.specs.Rebuilding.{no_block, no_fill, read_block, filled_with, mapping_of_head, in_clear}
 use Rattle.spec_exchange.specs.Refusals.{Refusal, Journal, Keeper, Form, Cipher, Replay, Reconstruction, InClear}
 use Rattle.spec_exchange.specs.FirstFailed.{receive_key, first_failed}

@@ -1,28 +1,39 @@
 -- The checks in their order are those of the two stages.
-use Rattle.std.proofs.Common.{◌≡◌, ℕ, List, length, Result, Ok, Err, Option, None, refl, subst, sym, ap, ◌∙◌}
+use Rattle.std.proofs.Common.{◌≡◌, ℕ, List, length, Result, Ok, Err, Option, Some, None, refl, subst, sym, ap, ◌∙◌}
 use Rattle.spec_documents.specs.Tree.{Tree}
 use Rattle.spec_messages.specs.Message.{Message, wanted}
 use Rattle.spec_messages.specs.Policy.{Policy}
 use Rattle.spec_records.specs.Records.{Record, open_context, keys, delivered_at}
 use Rattle.spec_exchange.specs.Chain.{◌>>=◌, unless, none_of, or_refused}
-use Rattle.jwe_flat.specs.declared.jwe.FlatJwe.{FlatJwe}
-use Rattle.jwe_flat.specs.declared.key.ContentKey.{ContentKey}
-use Rattle.spec_exchange.specs.Jwe.{content_key, misfit, opened}
-use Rattle.spec_exchange.specs.Received.{Received, received}
-use Rattle.spec_exchange.specs.Rebuilding.{no_values, no_block, no_fill, values_of, read_block, filled_with, mapping_of_head, in_clear}
+use Rattle.spec_sealing.specs.Suites.{ContentKey, content_key}
+use Rattle.spec_sealing.specs.Header.{Misfit}
+use Rattle.spec_sealing.specs.Jwe as jwes
+use Rattle.spec_sealing.specs.Jwe.{Jwe, misfit, opened}
+use Rattle.spec_sealing.specs.Plaintext.{values_of}
+use Rattle.spec_sealing.specs.Received.{Received, received}
+use Rattle.spec_exchange.specs.Rebuilding.{no_values, no_block, no_fill, read_block, filled_with, mapping_of_head, in_clear}
 use Rattle.spec_exchange.specs.Refusals as spec
 use Rattle.spec_exchange.specs.FirstFailed.{Delivery, receive_key, is_later, first_failed, first_failed_of}
-use Rattle.spec_exchange.proofs.FormLemmas.{bind_at}
+use Rattle.spec_documents.proofs.Chains.{bind_at}
 use Rattle.receiving_sepp.specs.Refusing.{Tells}
 use Rattle.context_calls.specs.Changes.{with_room}
 use Rattle.receiving_sepp.specs.Stages.{Unsealed, Mapped, opens, opened_under, rebuilt_of}
 use Rattle.receiving_sepp.specs.declared.refused.Refused.{Refused}
 use Rattle.receiving_sepp.proofs.Rows.{tells_on, tells_past, tells_as}
 
--- a tag that is another
-pub tag_refused : (key : ContentKey) (w : FlatJwe) → misfit key w ≡ None → opened key w ≡ None → opens key w ≡ Err spec.Integrity
+-- why a JWE isn't opened, as a refusal
+abbrev pub shut_refusal : jwes.Shut → spec.Refusal
+shut_refusal (jwes.Cipher why) = spec.Cipher why
+shut_refusal jwes.Integrity = spec.Integrity
+
+pub opens_shut : (key : ContentKey) (w : Jwe) → opens key w ≡ or_refused shut_refusal (jwes.opens key w)
 unfolding ◌>>=◌
-tag_refused key w fits other = rw (fits, other) refl
+opens_shut key w = by_parts (misfit key w) (opened key w)
+  where
+    by_parts : (why : Option Misfit) (plain : Option (List ℕ)) → (none_of spec.Cipher why >>= λ _. wanted plain spec.Integrity) ≡ or_refused shut_refusal (none_of jwes.Cipher why >>= λ _. wanted plain jwes.Integrity)
+    by_parts None None = refl
+    by_parts None (Some plain) = refl
+    by_parts (Some why) plain = refl
 
 -- ---- what a stage gives goes on as what its last check gave
 

@@ -2,7 +2,7 @@
 use Rattle.std.proofs.Common.{◌≡◌, Result, Ok, subst, sym}
 use Rattle.spec_exchange.specs.Chain.{◌>>=◌}
 use Rattle.spec_exchange.specs.Refusals as spec
-use Rattle.spec_exchange.proofs.FormLemmas.{bind_at, bind_err}
+use Rattle.spec_documents.proofs.Chains.{bind_at, bind_err}
 use Rattle.receiving_sepp.specs.Refusing.{Tells, TellsWhy}
 use Rattle.receiving_sepp.specs.declared.refused.RebuildWhy.{RebuildWhy}
 use Rattle.receiving_sepp.specs.declared.refused.RebuildWhy.TheVariants.{Values, Block, NotText, Depth}

@@ -6,10 +6,11 @@ use Rattle.spec_messages.specs.Rebuilt.{not_text, too_deep}
 use Rattle.http_message.specs.Reading.{kind_view}
 use Rattle.policy_tables.specs.View.{address_view}
 use Rattle.block_forms.specs.Faults as blocks
-use Rattle.prins_document.specs.Form.{entries_of}
+use Rattle.jwe_flat.specs.View.{jwe_view, misfit_view}
+use Rattle.prins_document.specs.View.{entries_of}
 use Rattle.context_store.specs.declared.faults.OpenFault.{OpenFault}
 use Rattle.context_store.specs.declared.faults.OpenFault.TheVariants as opening
-use Rattle.spec_exchange.specs.Received as forms
+use Rattle.spec_sealing.specs.Received as forms
 use Rattle.spec_exchange.specs.Rebuilding.{no_values, no_block, no_fill}
 use Rattle.spec_exchange.specs.Refusals as spec
 use Rattle.receiving_sepp.specs.declared.received.Received.{Received}
@@ -32,7 +33,7 @@ Tells (refused.Form member) wanted = wanted ≡ Err (spec.Form member)
 Tells refused.NotBuilt wanted = wanted ≡ Err spec.NotBuilt
 Tells refused.ContextNotFound wanted = wanted ≡ Err spec.NoContext
 Tells refused.NoKeys wanted = wanted ≡ Err spec.NoReceiveKeys
-Tells (refused.Cipher why) wanted = wanted ≡ Err (spec.Cipher why)
+Tells (refused.Cipher why) wanted = wanted ≡ Err (spec.Cipher (misfit_view why))
 Tells refused.Integrity wanted = wanted ≡ Err spec.Integrity
 Tells (refused.Replay number) wanted = wanted ≡ Err (spec.Replay number)
 Tells (refused.Reconstruction why) wanted = TellsWhy why wanted
@@ -57,11 +58,11 @@ refused_of opening.NoMemory = refused.NoMemory
 
 abbrev pub parts_view : Received → List Tree → forms.Received
 parts_view r entries = record {
-  jwe = r.wire.jwe;
+  jwe = jwe_view r.wire.jwe;
   block = r.wire.block;
   context = r.context.value;
   message = r.message.value;
-  authorized = r.wire.meta.ipx;
+  authorized = r.wire.authorized;
   kind = kind_view r.wire.kind;
   entries = entries;
 }

@@ -5,14 +5,14 @@ use Rattle.spec_messages.specs.Message.{Message, wanted}
 use Rattle.spec_messages.specs.Policy.{Policy}
 use Rattle.spec_records.specs.Records.{Context, Record, open_context, keys, delivered_at}
 use Rattle.http_message.specs.Reading.{message_view}
-use Rattle.jwe_flat.specs.declared.jwe.FlatJwe.{FlatJwe}
-use Rattle.jwe_flat.specs.declared.key.ContentKey.{ContentKey}
+use Rattle.spec_sealing.specs.Suites.{ContentKey, content_key}
+use Rattle.spec_sealing.specs.Jwe.{Jwe, misfit, opened}
+use Rattle.spec_sealing.specs.Plaintext.{values_of}
+use Rattle.spec_sealing.specs.Received.{Received}
 use Rattle.context_records.specs.View.{context_view}
 use Rattle.spec_exchange.specs.Chain.{◌>>=◌, none_of, or_refused}
 use Rattle.spec_exchange.specs.FirstFailed.{receive_key}
-use Rattle.spec_exchange.specs.Jwe.{content_key, misfit, opened}
-use Rattle.spec_exchange.specs.Received.{Received}
-use Rattle.spec_exchange.specs.Rebuilding.{no_values, no_block, no_fill, values_of, read_block, filled_with, mapping_of_head, in_clear}
+use Rattle.spec_exchange.specs.Rebuilding.{no_values, no_block, no_fill, read_block, filled_with, mapping_of_head, in_clear}
 use Rattle.spec_exchange.specs.Refusals as spec
 use Rattle.receiving_sepp.specs.declared.opening.Opened.{Opened}
 use Rattle.receiving_sepp.specs.declared.rebuilding.Rebuilt.{Rebuilt}
@@ -28,7 +28,7 @@ abbrev pub unsealed_view : Opened → Unsealed
 unsealed_view o = record { context = context_view o.context.now; plain = o.plain }
 
 -- the plaintext of a JWE, or why it isn't opened
-abbrev pub opens : ContentKey → FlatJwe → Result (List ℕ) spec.Refusal
+abbrev pub opens : ContentKey → Jwe → Result (List ℕ) spec.Refusal
 opens key w = do
   _ ← none_of spec.Cipher (misfit key w)
   wanted (opened key w) spec.Integrity

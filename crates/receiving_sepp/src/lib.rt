@@ -12,6 +12,3 @@ mod refused;
 
 pub use accepting::accept;
 pub use refused::{Delivered, RebuildWhy, Refused};
-
-#[cfg(test)]
-mod tests;

@@ -4,6 +4,7 @@ ghost use Rattle.spec_documents.specs.Text.{is_node_name};
 ghost use Rattle.spec_messages.specs.Message.{wanted};
 ghost use Rattle.spec_records.specs.Records as spec;
 ghost use Rattle.http_message.specs.Reading.{kind_view};
+ghost use Rattle.jwe_flat.specs.View.{content_key_view, jwe_view};
 ghost use Rattle.context_records.specs.View.{context_view, key_set_view};
 ghost use Rattle.spec_exchange.specs.Chain.{none_of};
 ghost use Rattle.spec_exchange.specs.Refusals as refusals;
@@ -13,12 +14,11 @@ ghost use Rattle.receiving_sepp.specs.Stages.{opened_under, opens, unsealed_view
 use crate::received::Received;
 use crate::refused::Refused;
 use context_calls::{keys_fit_suite, receive_key};
+use context_records::{Context, KeySet};
 use context_store::Store;
 use http_message::Kind;
 use jwe_flat::{ContentKey, FlatJwe, JweOpen, open_jwe};
 use n32_values::{Bytes, Hex64, Text};
-use context_records::{Context, KeySet};
-use spec_exchange::readings::jwes_are_computed;
 use std::alloc::Global;
 
 // What a JWE opens to, with the context under which it was sealed.
@@ -50,9 +50,8 @@ fn keys_of<'a>(store: &'a Store, node: &Text, id: Hex64) -> Result<&'a KeySet, R
 // The plaintext of a JWE whose header is right and whose tag recomputes.
 #[tactic(auto, unfolding(spec_exchange::specs::Chain::chains))]
 fn open(alloc: Global, jwe: &FlatJwe, key: &ContentKey) -> Result<Bytes, Refused>
-    ensures { Gives (λ b. b) result (opens key.now jwe.now) }
+    ensures { Gives (λ b. b) result (opens (content_key_view key.now) (jwe_view jwe.now)) }
 {
-    jwes_are_computed();
     match open_jwe(alloc, jwe, key) {
         Ok(plain) => Ok(plain),
         Err(JweOpen::Cipher(why)) => Err(Refused::Cipher(why)),

@@ -6,6 +6,7 @@ ghost use Rattle.http_message.specs.Reading.{message_view};
 ghost use Rattle.block_forms.specs.Faults.{IsFault};
 ghost use Rattle.spec_exchange.specs.Chain.{none_of, or_refused};
 ghost use Rattle.spec_exchange.specs.Rebuilding as spec;
+ghost use Rattle.spec_sealing.specs.Plaintext.{values_of};
 ghost use Rattle.spec_exchange.specs.Refusals as refusals;
 ghost use Rattle.receiving_sepp.specs.Refusing.{Gives};
 ghost use Rattle.receiving_sepp.specs.Stages.{rebuilt_of, mapped_view};
@@ -17,8 +18,8 @@ use http_message::Message;
 use message_rebuilding::{RebuildFault, clear_message, fill_message, values_are_few};
 use n32_values::{Doc, NoMemory, NodeList};
 use policy_tables::Policy;
+use prins_document::{ValuesRead, read_values};
 use reformat_blocks::Block;
-use sealed_values::{ValuesRead, read_values};
 use sealing_check::first_in_clear;
 use std::alloc::Global;
 
@@ -31,7 +32,7 @@ pub(crate) struct Rebuilt {
 
 // The values of a plaintext.
 fn values_of(alloc: Global, plain: &[u8]) -> Result<NodeList, Refused>
-    ensures { Gives (λ vs. vs) result (wanted (spec.values_of plain.now) (refusals.Reconstruction spec.no_values)) }
+    ensures { Gives (λ vs. vs) result (wanted (values_of plain.now) (refusals.Reconstruction spec.no_values)) }
 {
     match read_values(alloc, plain) {
         Ok(values) => Ok(values),

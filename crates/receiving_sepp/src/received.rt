@@ -1,20 +1,17 @@
 // The form of a document, and what is read yet.
-ghost use Rattle.std.specs.Prelude.{◌≡◌, Ok, Err, IfOk, IfErr, Some, None, codes};
-ghost use Rattle.spec_messages.specs.Message.{Kind as any_kind};
+ghost use Rattle.std.specs.Prelude.{◌≡◌, IfOk};
 ghost use Rattle.spec_exchange.specs.Chain.{unless, or_refused};
 ghost use Rattle.spec_exchange.specs.FirstFailed.{is_later};
-ghost use Rattle.spec_exchange.specs.Received.{received};
+ghost use Rattle.spec_sealing.specs.Received.{received};
 ghost use Rattle.spec_exchange.specs.Refusals as spec;
-ghost use Rattle.prins_document.specs.Parts.{IsReceived, part_name};
-ghost use Rattle.receiving_sepp.specs.Refusing.{Gives, Tells, received_view};
+ghost use Rattle.prins_document.specs.View.{part_name, wire_view};
+ghost use Rattle.receiving_sepp.specs.Refusing.{Gives, received_view};
 
 use crate::refused::Refused;
 use http_message::Kind;
 use jwe_flat::JweMember;
-use n32_values::{Doc, Hex64, NoMemory, Text, read_hex64};
-use prins_document::{
-    WireDoc, WireMember, WireRead, documents_are_received, entries, read_wire_doc,
-};
+use n32_values::{Doc, Hex64, NoMemory, Text};
+use prins_document::{WireDoc, WireMember, WireRead, entries, read_wire_doc};
 use std::alloc::Global;
 
 // A document of the form, with its ids.
@@ -32,7 +29,6 @@ fn word_of(member: WireMember) -> &'static str
     match member {
         WireMember::Document => "document",
         WireMember::ReformattedData => "reformattedData",
-        WireMember::Jwe(JweMember::Whole) => "",
         WireMember::Jwe(JweMember::Protected) => "protected",
         WireMember::Jwe(JweMember::Aad) => "aad",
         WireMember::Jwe(JweMember::Iv) => "iv",
@@ -53,10 +49,8 @@ fn out_of_form(alloc: Global, member: WireMember) -> Result<Text, NoMemory>
 }
 
 fn read_wire(alloc: Global, document: &Doc) -> Result<WireDoc, Refused>
-    ensures ok { IfOk result (IsReceived document.now) }
-    ensures refused { IfErr result (λ e. Tells e (or_refused spec.Form (received document.now))) }
+    ensures { Gives (wire_view document.now) result (or_refused spec.Form (received document.now)) }
 {
-    documents_are_received();
     match read_wire_doc(alloc, document) {
         Ok(wire) => Ok(wire),
         Err(WireRead::Form(member)) => Err(Refused::Form(out_of_form(alloc, member)?)),
@@ -69,12 +63,8 @@ pub(crate) fn read_received(alloc: Global, document: &Doc) -> Result<Received, R
     ensures { Gives (received_view document.now) result (or_refused spec.Form (received document.now)) }
 {
     let wire = read_wire(alloc, document)?;
-    let Some(context) = read_hex64(wire.meta.context.as_str()) else {
-        return Err(Refused::Form(out_of_form(alloc, WireMember::Block)?));
-    };
-    let Some(message) = read_hex64(wire.meta.message.as_str()) else {
-        return Err(Refused::Form(out_of_form(alloc, WireMember::Block)?));
-    };
+    let context = wire.context;
+    let message = wire.message;
     Ok(Received {
         wire,
         context,

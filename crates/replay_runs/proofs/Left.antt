@@ -1,10 +1,11 @@
 -- From what a run over any machine leaves to what a run of `replay` leaves.
-use Rattle.std.proofs.Common.{◌≡◌, ◌≤◌, ◌-◌, ℕ, List, [], ◌∷◌, length, take, refl, ap, sym, subst, arith, None, Some, IfSome, inl, inr}
+use Rattle.std.proofs.Common.{◌≡◌, ◌≤◌, ◌-◌, ℕ, List, [], ◌∷◌, ◌++◌, length, take, refl, ap, sym, subst, arith, None, Some, IfSome, inl, inr}
 use Rattle.std.specs.Prelude.{Option, count_by}
 use Rattle.std.specs.Io.KnownBytes.{Appends}
 use Rattle.n32_outside.specs.Causes.{Rose}
 use Rattle.script_loop.specs.Limits.{script_limit}
 use Rattle.script_loop.specs.Lines.{lines_of, ended_lines, IsWithin}
+use Rattle.script_loop.specs.InPart.{GivesUp}
 use Rattle.script_loop.specs.Ends.{Ends, Answers, AnswersInPart, MeetsNoLimit}
 use Rattle.script_loop.specs.declared.ending.Ending.{Ending}
 use Rattle.script_loop.specs.declared.ending.Ending.TheVariants as ending
@@ -17,12 +18,17 @@ use Rattle.replay_world.specs.Worlds.{TellsRecords, state_of}
 use Rattle.replay_runs.specs.Statuses.{status_of}
 use Rattle.replay_runs.specs.Unfailing.{plain_state, plain_output}
 use Rattle.replay_runs.specs.Replays.{KeeperAnswers, tells_keeper, RepliesToAll, RepliesToFirst, RepliesInPart, Leaves, OverRecords, IsComplete}
-use Rattle.replay_runs.specs.Lines.{IsOfLines}
+use Rattle.replay_runs.specs.Lines.{GivesUpLine, IsOfLines}
 use Rattle.replay_runs.specs.declared.status.Status.{Status}
 use Rattle.replay_runs.proofs.Plain.{is_plain, none_rose}
 use Rattle.replay_runs.proofs.Went.{gives_of, went}
+use Rattle.replay_runs.proofs.InPart.{cut_reply, given_reply, unbegun_reply}
 
 -- ---- lines
+
+-- what a machine leaves that gives a line up
+abbrev Kept : {M : Type 0} → (M → Option (List (List ℕ))) → (M → ℕ) → (M → World) → GivesUp M → Type 0
+Kept {M} held faults world gives_up = (a b : M) (n : ℕ) (line : List ℕ) → gives_up a n line b → GivesUpLine (held a) (held b) (faults a) (faults b) (world a) (world b) line
 
 -- a run begins in a world without nodes and documents
 abbrev Begins : World → List Record → Type 0
@@ -70,30 +76,34 @@ all_of held faults world script records old new before after t few begins a =
       one = one_output script records w.answers w.last (faults old) (faults new) answered w.keeper;
     }
 
-keeper_later : (answers : List Numbered) (before mid now : ℕ) → mid ≤ now → KeeperAnswers answers before mid → KeeperAnswers answers before now
-keeper_later answers before mid now le k = record { faults = omega (arith, k.faults, le); sound = k.sound }
-
-in_part_of : {M : Type 0} (held : M → Option (List (List ℕ))) (faults : M → ℕ) (world : M → World) (gives_up : M → M → Type 0) (script : List ℕ) (records : List Record) (old new : M) (before after : Option (List ℕ))
-    → TellsRecords (held old) records → length records ≤ record_limit → Begins (world old) records → ((a b : M) → gives_up a b → faults a ≤ faults b)
-    → AnswersInPart (gives_of held faults world) gives_up old script new before after → RepliesInPart script records (faults old) (faults new) before after
-in_part_of held faults world gives_up script records old new before after t few begins kept a =
+in_part_of : {M : Type 0} (held : M → Option (List (List ℕ))) (faults : M → ℕ) (world : M → World) (gives_up : GivesUp M) (script : List ℕ) (left : Option (List ℕ)) (records : List Record) (old new : M) (before after : Option (List ℕ)) (e : Ending)
+    → TellsRecords (held old) records → length records ≤ record_limit → Begins (world old) records → Kept held faults world gives_up
+    → AnswersInPart (gives_of held faults world) gives_up old script left new before after e → RepliesInPart script left records (held new) (faults old) (faults new) before after (status_of e)
+in_part_of held faults world gives_up script left records old new before after e t few begins kept a =
     let w = went held faults world old records 1 (take a.number (lines_of script)) a.out a.mid t few a.answered in
     let P : State → Type 0 = λ s. Answered s 1 (take a.number (lines_of script)) w.answers w.last in
-    let later : faults a.mid ≤ faults new = elim a.left [ inl same ↦ subst (λ (m : _). faults a.mid ≤ faults m) same (omega arith) | inr up ↦ kept a.mid new up ] in
     record {
-      count = a.number;
+      taken = a.taken;
+      number = a.number;
+      takes = a.takes;
       answers = w.answers;
-      last = w.last;
+      mid = w.last;
       answered = subst P begins w.answered;
-      size = a.count;
-      written = subst (λ (z : List ℕ). Appends before after (take a.count z)) w.text a.written;
-      keeper = keeper_later w.answers (faults old) (faults a.mid) (faults new) later w.keeper;
+      front = a.front;
+      stops = elim a.stops [
+        | inl n ↦ elim n.stops [
+          | inl c ↦ inl (cut_reply held faults world script a.taken a.number n.line a.front (faults old) w.answers w.last a.mid new w.state_is w.held_is w.few w.keeper n.next c)
+          | inr g ↦ inr (given_reply held faults world gives_up script a.taken a.number n.line a.front (faults old) w.answers w.last a.mid new e w.state_is w.held_is w.keeper kept n.next g)
+        ]
+        | inr u ↦ inr (unbegun_reply held faults script a.taken a.number a.front (faults old) w.answers w.last a.mid new e w.held_is w.keeper u)
+      ];
+      written = subst (λ (z : List ℕ). Appends before after (z ++ a.front)) w.text a.written;
     }
 
 -- ---- by the ending
 
-leaves_of : {M : Type 0} (held : M → Option (List (List ℕ))) (faults : M → ℕ) (world : M → World) (gives_up : M → M → Type 0) (script : List ℕ) (left : Option (List ℕ)) (records : List Record) (old new : M) (before after : Option (List ℕ)) (e : Ending)
-    → TellsRecords (held old) records → length records ≤ record_limit → Begins (world old) records → ((a b : M) → gives_up a b → faults a ≤ faults b)
+leaves_of : {M : Type 0} (held : M → Option (List (List ℕ))) (faults : M → ℕ) (world : M → World) (gives_up : GivesUp M) (script : List ℕ) (left : Option (List ℕ)) (records : List Record) (old new : M) (before after : Option (List ℕ)) (e : Ending)
+    → TellsRecords (held old) records → length records ≤ record_limit → Begins (world old) records → Kept held faults world gives_up
     → Ends (gives_of held faults world) gives_up script left old new before after e → Leaves script left records (held new) (faults old) (faults new) before after (status_of e)
 leaves_of held faults world gives_up script left records old new before after ending.Done t few begins kept e =
     (e.0, e.1, all_of held faults world script records old new before after t few begins e.2)
@@ -102,6 +112,7 @@ leaves_of held faults world gives_up script left records old new before after en
   rest = e.rest;
   parts = e.parts;
   left_is = e.left_is;
+  within = e.within;
   replies = first_of held faults world (ended_lines e.taken) script records old new before after t few begins e.answers;
 }
 leaves_of held faults world gives_up script left records old new before after (ending.LineTooLong n) t few begins kept e =
@@ -109,9 +120,9 @@ leaves_of held faults world gives_up script left records old new before after (e
 leaves_of held faults world gives_up script left records old new before after ending.ScriptTooLarge t few begins kept e =
     (e.0, first_of held faults world (ended_lines (take script_limit script)) script records old new before after t few begins e.1)
 leaves_of held faults world gives_up script left records old new before after ending.WriteFault t few begins kept e =
-    in_part_of held faults world gives_up script records old new before after t few begins kept e
+    in_part_of held faults world gives_up script left records old new before after ending.WriteFault t few begins kept e
 leaves_of held faults world gives_up script left records old new before after ending.NoMemory t few begins kept e =
-    in_part_of held faults world gives_up script records old new before after t few begins kept e
+    in_part_of held faults world gives_up script left records old new before after ending.NoMemory t few begins kept e
 
 -- as many texts as records
 pub same_length : (texts : List (List ℕ)) (records : List Record) → AreRecords texts records → length texts ≡ length records
@@ -133,8 +144,8 @@ over_records : (held : Option (List (List ℕ))) (P : List Record → Type 0) �
 over_records None P h = tt
 over_records (Some texts) P h = λ records are. h records (record { texts = texts; told = refl; are = are })
 
-pub leaves_told : {M : Type 0} (held : M → Option (List (List ℕ))) (faults : M → ℕ) (world : M → World) (gives_up : M → M → Type 0) (first left : Option (List ℕ)) (old new : M) (stored : List Record) (before after : Option (List ℕ)) (e : Ending)
-    → Holds (held old) stored → length stored ≤ record_limit → ((records : List Record) → Begins (world old) records) → ((a b : M) → gives_up a b → faults a ≤ faults b)
+pub leaves_told : {M : Type 0} (held : M → Option (List (List ℕ))) (faults : M → ℕ) (world : M → World) (gives_up : GivesUp M) (first left : Option (List ℕ)) (old new : M) (stored : List Record) (before after : Option (List ℕ)) (e : Ending)
+    → Holds (held old) stored → length stored ≤ record_limit → ((records : List Record) → Begins (world old) records) → Kept held faults world gives_up
     → IfSome first (λ script. Ends (gives_of held faults world) gives_up script left old new before after e)
     → IfSome first (λ script. OverRecords (held old) (λ records. Leaves script left records (held new) (faults old) (faults new) before after (status_of e)))
 leaves_told held faults world gives_up None left old new stored before after e holds few begins kept h = tt
@@ -143,8 +154,8 @@ leaves_told held faults world gives_up (Some script) left old new stored before 
     leaves_of held faults world gives_up script left records old new before after e t (few_told (held old) stored records holds few t) (begins records) kept h
 
 -- the same, where what the machine left is named otherwise
-pub leaves_lent : {M : Type 0} (held : M → Option (List (List ℕ))) (faults : M → ℕ) (world : M → World) (gives_up : M → M → Type 0) (first left : Option (List ℕ)) (old new : M) (stored : List Record) (before after : Option (List ℕ)) (e : Ending) (status : Status) (held' : Option (List (List ℕ))) (faults' : ℕ)
-    → Holds (held old) stored → length stored ≤ record_limit → ((records : List Record) → Begins (world old) records) → ((a b : M) → gives_up a b → faults a ≤ faults b)
+pub leaves_lent : {M : Type 0} (held : M → Option (List (List ℕ))) (faults : M → ℕ) (world : M → World) (gives_up : GivesUp M) (first left : Option (List ℕ)) (old new : M) (stored : List Record) (before after : Option (List ℕ)) (e : Ending) (status : Status) (held' : Option (List (List ℕ))) (faults' : ℕ)
+    → Holds (held old) stored → length stored ≤ record_limit → ((records : List Record) → Begins (world old) records) → Kept held faults world gives_up
     → held' ≡ held new → faults' ≡ faults new → status ≡ status_of e
     → IfSome first (λ script. Ends (gives_of held faults world) gives_up script left old new before after e)
     → IfSome first (λ script. OverRecords (held old) (λ records. Leaves script left records held' (faults old) faults' before after status))

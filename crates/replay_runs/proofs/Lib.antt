@@ -1,6 +1,7 @@
-pub mod BlockLemmas
 pub mod Plain
 pub mod Rooms
 pub mod Went
+pub mod GivenUp
+pub mod InPart
 pub mod Left
 pub mod Loaded

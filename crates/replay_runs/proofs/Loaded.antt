@@ -1,27 +1,31 @@
 -- From the run over loaded records to the whole run: the keeper's faults are counted from before the load, and the load may end the run.
-use Rattle.std.proofs.Common.{◌≡◌, ◌≢◌, ⊎_elim, ◌<◌, ◌≤◌, ◌+◌, ◌-◌, ℕ, zero, suc, List, [], ◌∷◌, ◌++◌, length, take, drop, slice_get, refl, ap, sym, subst, ◌∙◌, arith, append-nil, append_assoc, None, Some, IfSome}
+use Rattle.std.proofs.Common.{◌≡◌, ◌≢◌, ⊎_elim, ◌<◌, ◌≤◌, ◌+◌, ◌-◌, ℕ, zero, suc, List, [], ◌∷◌, ◌++◌, length, take, drop, slice_get, refl, ap, sym, subst, ◌∙◌, arith, append-nil, append_assoc, inl, inr, None, Some, IfSome}
 use Rattle.std.specs.Prelude.{Option}
 use Rattle.std.specs.Io.KnownBytes.{Appends}
 use Rattle.std.proofs.KnownBytes.{Appends-nil}
 use Rattle.std.proofs.lemmas.Bool.{cases_lt}
-use Rattle.std.proofs.lemmas.List.{take-append-drop}
+use Rattle.std.proofs.lemmas.List.{take-append-drop, length-take-le}
+use Rattle.std.proofs.lemmas.List.Elements.{All-nil}
+use Rattle.std.proofs.lemmas.Option.{slice_get_within}
+use Rattle.n32_values.proofs.Trees.{take_at}
 use Rattle.n32_outside.specs.Contents.{Stays}
 use Rattle.script_loop.specs.Limits.{script_limit}
-use Rattle.script_loop.specs.Lines.{lines_of, ended_lines, IsWithin}
+use Rattle.script_loop.specs.Lines.{lines_of, ended_lines, is_blank, IsShort, IsWithin}
 use Rattle.spec_records.specs.Records.{Record}
 use Rattle.context_records.specs.Reading.{ReadsRecord}
 use Rattle.spec_script.specs.Steps.{State}
+use Rattle.spec_script.specs.Answers.{answer_text}
 use Rattle.spec_script.specs.Output.{Answered, Numbered, Output, answers_text, begin}
 use Rattle.context_store.specs.Stores.{AreRecords, HasNoBad, IsNoRecord, IsFirstBad}
 use Rattle.context_store.proofs.Kept.{has_no_bad}
 use Rattle.replay_world.specs.Worlds.{TellsRecords}
 use Rattle.replay_runs.specs.Unfailing.{plain_answers, plain_state}
-use Rattle.replay_runs.specs.Replays.{KeeperAnswers, RepliesToAll, RepliesToFirst, RepliesInPart, Leaves, WritesFront, OverRecords, AreHeld, IsComplete}
+use Rattle.replay_runs.specs.Replays.{KeeperAnswers, RepliesToAll, RepliesToFirst, CutsReply, LacksMemory, RepliesInPart, Leaves, WritesFront, OverRecords, AreHeld, IsComplete}
 use Rattle.replay_runs.specs.Loads.{IsRefused, NamesBad, AtLoad, Untouched}
 use Rattle.replay_runs.specs.Lines.{IsOfLines}
 use Rattle.replay_runs.specs.declared.status.Status.{Status}
 use Rattle.replay_runs.specs.declared.status.Status.TheVariants as status
-use Rattle.replay_runs.proofs.Plain.{answered_then, text-append, plain_answered}
+use Rattle.replay_runs.proofs.Plain.{answered_then, into_spoken, text-append, plain_answered}
 
 -- ---- counted from before the load
 
@@ -49,15 +53,44 @@ earlier_first count script records held first faults faults' before after le a =
   keeper = earlier_keeper a.answers first faults faults' le a.keeper;
 }
 
-earlier_part : (script : List ℕ) (records : List Record) (first faults faults' : ℕ) (before after : Option (List ℕ)) → first ≤ faults → RepliesInPart script records faults faults' before after → RepliesInPart script records first faults' before after
-earlier_part script records first faults faults' before after le a = record {
-  count = a.count;
+earlier_cut : (script taken : List ℕ) (number : ℕ) (answers : List Numbered) (mid : State) (front : List ℕ) (held : Option (List (List ℕ))) (first faults faults' : ℕ) → first ≤ faults → CutsReply script taken number answers mid front held faults faults' → CutsReply script taken number answers mid front held first faults'
+earlier_cut script taken number answers mid front held first faults faults' le c = record {
+  line = c.line;
+  next = c.next;
+  spoken = c.spoken;
+  answer = c.answer;
+  last = c.last;
+  answered = c.answered;
+  rest = c.rest;
+  some = c.some;
+  text = c.text;
+  held_is = c.held_is;
+  keeper = earlier_keeper (answers ++ (number + 1, c.answer) ∷ []) first faults faults' le c.keeper;
+}
+
+earlier_lacks : (script taken : List ℕ) (number : ℕ) (answers : List Numbered) (mid : State) (front : List ℕ) (held : Option (List (List ℕ))) (first faults faults' : ℕ) (s : Status) → first ≤ faults → LacksMemory script taken number answers mid front held faults faults' s → LacksMemory script taken number answers mid front held first faults' s
+earlier_lacks script taken number answers mid front held first faults faults' s le m = record {
+  memory = m.memory;
+  none = m.none;
+  held_is = m.held_is;
+  keeper = earlier_keeper answers first faults faults' le m.keeper;
+}
+
+earlier_part : (script : List ℕ) (left : Option (List ℕ)) (records : List Record) (held : Option (List (List ℕ))) (first faults faults' : ℕ) (before after : Option (List ℕ)) (s : Status) → first ≤ faults
+    → RepliesInPart script left records held faults faults' before after s → RepliesInPart script left records held first faults' before after s
+earlier_part script left records held first faults faults' before after s le a = record {
+  taken = a.taken;
+  number = a.number;
+  takes = a.takes;
   answers = a.answers;
-  last = a.last;
+  mid = a.mid;
   answered = a.answered;
-  size = a.size;
+  front = a.front;
+  stops = elim a.stops [
+    | inl c ↦ inl (earlier_cut script a.taken a.number a.answers a.mid a.front held first faults faults' le c)
+    | inr m ↦ inr (earlier_lacks script a.taken a.number a.answers a.mid a.front held first faults faults' s le m)
+  ];
   written = a.written;
-  keeper = earlier_keeper a.answers first faults faults' le a.keeper;
 }
 
 earlier : (script : List ℕ) (left : Option (List ℕ)) (records : List Record) (held : Option (List (List ℕ))) (first faults faults' : ℕ) (before after : Option (List ℕ)) (s : Status) → first ≤ faults
@@ -68,12 +101,13 @@ earlier script left records held first faults faults' before after status.ReadFa
   rest = e.rest;
   parts = e.parts;
   left_is = e.left_is;
+  within = e.within;
   replies = earlier_first (ended_lines e.taken) script records held first faults faults' before after le e.replies;
 }
 earlier script left records held first faults faults' before after (status.LineTooLong n) le e = (e.0, earlier_first (n - 1) script records held first faults faults' before after le e.1)
 earlier script left records held first faults faults' before after status.ScriptTooLarge le e = (e.0, earlier_first (ended_lines (take script_limit script)) script records held first faults faults' before after le e.1)
-earlier script left records held first faults faults' before after status.WriteFault le e = earlier_part script records first faults faults' before after le e
-earlier script left records held first faults faults' before after status.NoMemory le e = earlier_part script records first faults faults' before after le e
+earlier script left records held first faults faults' before after status.WriteFault le e = earlier_part script left records held first faults faults' before after status.WriteFault le e
+earlier script left records held first faults faults' before after status.NoMemory le e = earlier_part script left records held first faults faults' before after status.NoMemory le e
 earlier script left records held first faults faults' before after (status.Journal k) le e = e
 earlier script left records held first faults faults' before after status.KeeperFault le e = e
 earlier script left records held first faults faults' before after status.Words le e = absurd e
@@ -97,22 +131,26 @@ loaded_leaves (Some script) left held loaded held' faults faults' faults'' befor
 
 -- ---- the load ended the run
 
-nothing_replied : (script : List ℕ) (records : List Record) (faults faults' : ℕ) (written : Option (List ℕ)) → faults ≤ faults' → RepliesInPart script records faults faults' written written
-nothing_replied script records faults faults' written le = record {
-  count = 0;
+nothing_replied : (script : List ℕ) (records : List Record) (held : Option (List (List ℕ))) (faults faults' : ℕ) (written : Option (List ℕ)) → TellsRecords held records → faults ≤ faults'
+    → RepliesInPart script (Some script) records held faults faults' written written status.NoMemory
+nothing_replied script records held faults faults' written t le = record {
+  taken = [];
+  number = 0;
+  takes = record { rest = script; parts = refl; left_is = refl; size = omega arith; ended = omega arith; short = All-nil IsShort };
   answers = [];
-  last = begin records;
+  mid = begin records;
   answered = (refl, refl);
-  size = 0;
+  front = [];
+  stops = inr (record { memory = refl; none = refl; held_is = inl t; keeper = record { faults = omega (arith, le); sound = refl } });
   written = Appends-nil written;
-  keeper = record { faults = omega (arith, le); sound = refl };
 }
 
-pub memory_leaves : (first : Option (List ℕ)) (held held' : Option (List (List ℕ))) (faults faults' : ℕ) (written : Option (List ℕ)) → faults ≤ faults'
+pub memory_leaves : (first : Option (List ℕ)) (held held' : Option (List (List ℕ))) (faults faults' : ℕ) (written : Option (List ℕ)) → held' ≡ held → faults ≤ faults'
     → IfSome first (λ script. OverRecords held (λ records. Leaves script first records held' faults faults' written written status.NoMemory))
-memory_leaves None held held' faults faults' written le = tt
-memory_leaves (Some script) held held' faults faults' written le =
-    over_any held (λ records. Leaves script (Some script) records held' faults faults' written written status.NoMemory) (λ records t. nothing_replied script records faults faults' written le)
+memory_leaves None held held' faults faults' written same le = tt
+memory_leaves (Some script) held held' faults faults' written same le =
+    over_any held (λ records. Leaves script (Some script) records held' faults faults' written written status.NoMemory)
+    (λ records t. nothing_replied script records held' faults faults' written (subst (λ (o : Option (List (List ℕ))). TellsRecords o records) (sym same) t) le)
 
 -- ---- a front of an output
 
@@ -147,19 +185,53 @@ front_of_first count script records held faults faults' before after a =
     let b = begins_output count script records a.answers a.last a.answered in
     record { out = answers_text b.whole; last = b.last; output = b.output; front = answers_text a.answers; rest = b.rest; parts = b.parts; written = a.written }
 
-front_of_part : (script : List ℕ) (records : List Record) (faults faults' : ℕ) (before after : Option (List ℕ)) → RepliesInPart script records faults faults' before after → WritesFront script records before after
-front_of_part script records faults faults' before after a =
-    let b = begins_output a.count script records a.answers a.last a.answered in
-    let text : List ℕ = answers_text a.answers in
-    record {
-      out = answers_text b.whole;
-      last = b.last;
-      output = b.output;
-      front = take a.size text;
-      rest = drop a.size text ++ b.rest;
-      parts = b.parts ∙ (ap (λ (z : List ℕ). z ++ b.rest) (sym (take-append-drop a.size text)) ∙ append_assoc (take a.size text) (drop a.size text) b.rest);
-      written = a.written;
-    }
+-- with the answer to the line that was cut
+cut_begins : (script taken : List ℕ) (number : ℕ) (records : List Record) (answers : List Numbered) (mid : State) (front : List ℕ) (held : Option (List (List ℕ))) (faults faults' : ℕ) → Answered (begin records) 1 (take number (lines_of script)) answers mid
+    → (c : CutsReply script taken number answers mid front held faults faults') → BeginsOutput script records (answers ++ (number + 1, c.answer) ∷ [])
+cut_begins script taken number records answers mid front held faults faults' answered c =
+    let lines : List (List ℕ) = take number (lines_of script) in
+    let within = slice_get_within (lines_of script) number c.line c.next.there in
+    let few : length lines ≡ number = length-take-le number (lines_of script) (omega (arith, within)) in
+    let place : number + 1 ≡ 1 + length lines = omega (arith, few) in
+    let one : Answered mid (number + 1) (c.line ∷ []) ((number + 1, c.answer) ∷ []) c.last =
+    into_spoken _ _ (is_blank c.line) c.spoken (c.answer, [], c.last, refl, c.answered, (refl, refl)) in
+    let P : List (List ℕ) → Type 0 = λ ls. Answered (begin records) 1 ls (answers ++ (number + 1, c.answer) ∷ []) c.last in
+    begins_output (number + 1) script records (answers ++ (number + 1, c.answer) ∷ []) c.last
+    (subst P (sym (take_at (lines_of script) number c.line c.next.there)) (answered_then (begin records) 1 lines answers mid (number + 1) (c.line ∷ []) ((number + 1, c.answer) ∷ []) c.last place answered one))
+
+front_of_part : (script : List ℕ) (left : Option (List ℕ)) (records : List Record) (held : Option (List (List ℕ))) (faults faults' : ℕ) (before after : Option (List ℕ)) (s : Status) → RepliesInPart script left records held faults faults' before after s → WritesFront script records before after
+front_of_part script left records held faults faults' before after s a = elim a.stops [ inl c ↦ cut c | inr m ↦ whole m.none ]
+  where
+    cut : CutsReply script a.taken a.number a.answers a.mid a.front held faults faults' → WritesFront script records before after
+    cut c =
+        let text : List ℕ = answers_text a.answers in
+        let b = cut_begins script a.taken a.number records a.answers a.mid a.front held faults faults' a.answered c in
+        let own : List ℕ = answer_text (a.number + 1) c.answer ++ 10 ∷ [] in
+        let all : answers_text (a.answers ++ (a.number + 1, c.answer) ∷ []) ≡ (text ++ a.front) ++ c.rest =
+        text-append a.answers ((a.number + 1, c.answer) ∷ []) ∙ (ap (λ (z : List ℕ). text ++ z) (append-nil own ∙ c.text) ∙ sym (append_assoc text a.front c.rest)) in
+        record {
+          out = answers_text b.whole;
+          last = b.last;
+          output = b.output;
+          front = text ++ a.front;
+          rest = c.rest ++ b.rest;
+          parts = b.parts ∙ (ap (λ (z : List ℕ). z ++ b.rest) all ∙ append_assoc (text ++ a.front) c.rest b.rest);
+          written = a.written;
+        }
+
+    whole : a.front ≡ [] → WritesFront script records before after
+    whole none =
+        let text : List ℕ = answers_text a.answers in
+        let b = begins_output a.number script records a.answers a.mid a.answered in
+        record {
+          out = answers_text b.whole;
+          last = b.last;
+          output = b.output;
+          front = text ++ a.front;
+          rest = b.rest;
+          parts = b.parts ∙ ap (λ (z : List ℕ). z ++ b.rest) (sym (ap (λ (z : List ℕ). text ++ z) none ∙ append-nil text));
+          written = a.written;
+        }
 
 front_of_none : (script : List ℕ) (records : List Record) (before after : Option (List ℕ)) → after ≡ before → WritesFront script records before after
 front_of_none script records before after same =
@@ -175,8 +247,8 @@ front_of script left records held faults faults' before after status.Done e =
 front_of script left records held faults faults' before after status.ReadFault e = front_of_first (ended_lines e.taken) script records held faults faults' before after e.replies
 front_of script left records held faults faults' before after (status.LineTooLong n) e = front_of_first (n - 1) script records held faults faults' before after e.1
 front_of script left records held faults faults' before after status.ScriptTooLarge e = front_of_first (ended_lines (take script_limit script)) script records held faults faults' before after e.1
-front_of script left records held faults faults' before after status.WriteFault e = front_of_part script records faults faults' before after e
-front_of script left records held faults faults' before after status.NoMemory e = front_of_part script records faults faults' before after e
+front_of script left records held faults faults' before after status.WriteFault e = front_of_part script left records held faults faults' before after status.WriteFault e
+front_of script left records held faults faults' before after status.NoMemory e = front_of_part script left records held faults faults' before after status.NoMemory e
 front_of script left records held faults faults' before after (status.Journal k) e = front_of_none script records before after e.0
 front_of script left records held faults faults' before after status.KeeperFault e = front_of_none script records before after e.0
 front_of script left records held faults faults' before after status.Words e = absurd e

@@ -31,6 +31,7 @@ pub record Went {M : Type 0} (held : M → Option (List (List ℕ))) (faults : M
   pub last : State
   pub answered : Answered (state_of (world old) records) number lines answers last
   pub text : out ≡ answers_text answers
+  pub state_is : state_of (world new) last.records ≡ last
   pub held_is : TellsRecords (held new) last.records
   pub few : length last.records ≤ record_limit
   pub keeper : KeeperAnswers answers (faults old) (faults new)
@@ -56,7 +57,7 @@ call_sound (exchange.Replay number) none = refl
 call_sound (exchange.Reconstruction why) none = refl
 call_sound (exchange.InClear address) none = refl
 
-answer_sound : (a : Answer) → ((k : ℕ) → a ≡ Refuses (spec.OfCall (exchange.Journal k)) → ⊥) → has_refusal is_journal_refusal a ≡ false
+pub answer_sound : (a : Answer) → ((k : ℕ) → a ≡ Refuses (spec.OfCall (exchange.Journal k)) → ⊥) → has_refusal is_journal_refusal a ≡ false
 answer_sound (Refuses (spec.OfCall e)) none = call_sound e λ k same. none k (ap (λ (d : exchange.Refusal). Refuses (spec.OfCall d)) same)
 answer_sound (Refuses spec.Syntax) none = refl
 answer_sound (Refuses spec.OtherNumber) none = refl
@@ -80,14 +81,14 @@ counted : (b : Bool) (n before mid now : ℕ) → before ≤ mid → (b ≡ true
 counted true n before mid now le one more = let rose : RoseBy 1 before mid = one refl in omega (arith, rose, more)
 counted false n before mid now le one more = omega (arith, le, more)
 
-keeper_more : (n : ℕ) (a : Answer) (answers : List Numbered) (before mid now : ℕ) → before ≤ mid → (has_refusal is_keeper_refusal a ≡ true → RoseBy 1 before mid) → has_refusal is_journal_refusal a ≡ false
+pub keeper_more : (n : ℕ) (a : Answer) (answers : List Numbered) (before mid now : ℕ) → before ≤ mid → (has_refusal is_keeper_refusal a ≡ true → RoseBy 1 before mid) → has_refusal is_journal_refusal a ≡ false
     → KeeperAnswers answers mid now → KeeperAnswers ((n, a) ∷ answers) before now
 keeper_more n a answers before mid now le cause sound k = record {
   faults = rw (sum_by-cons (λ (x : Numbered). cond (tells_keeper x) 1 0) (n, a) answers) (counted (has_refusal is_keeper_refusal a) (count_by tells_keeper answers) before mid now le cause k.faults);
   sound = sum_by-cons (λ (x : Numbered). cond (tells_journal x) 1 0) (n, a) answers ∙ (ap (λ (b : Bool). cond b 1 0 + count_by tells_journal answers) sound ∙ (let z : 0 + count_by tells_journal answers ≡ 0 = omega (arith, k.sound) in z));
 }
 
-keeper_none : (count : ℕ) → KeeperAnswers [] count count
+pub keeper_none : (count : ℕ) → KeeperAnswers [] count count
 keeper_none count = record { faults = omega arith; sound = refl }
 
 -- ---- lines
@@ -102,6 +103,7 @@ went_blank held faults world old mid new records number line lines first rest ou
       last = v.last;
       answered = into_blank _ _ (is_blank line) blank v.answered;
       text = parts ∙ (ap (λ (z : List ℕ). z ++ rest) none ∙ v.text);
+      state_is = v.state_is;
       held_is = v.held_is;
       few = v.few;
       keeper = v.keeper;
@@ -123,13 +125,14 @@ went_spoken held faults world old mid new texts records number line lines first 
       last = w.last;
       answered = into_spoken _ _ (is_blank line) spoken (a, w.answers, after s (line_step s g.choice line), refl, (g.choice, refl, refl), subst P g.state_is w.answered);
       text = parts ∙ (ap (λ (z : List ℕ). z ++ rest) (one ∙ ap (λ (z : List ℕ). z ++ 10 ∷ []) g.text_is) ∙ ap (λ (z : List ℕ). (answer_text number a ++ 10 ∷ []) ++ z) w.text);
+      state_is = w.state_is;
       held_is = w.held_is;
       few = w.few;
       keeper = keeper_more number a w.answers (faults old) (faults mid) (faults new) le g.failed sound w.keeper;
     }
 
 -- the step over the records that are told
-over_told : (held now : Option (List (List ℕ))) (before after : ℕ) (old new : World) (number : ℕ) (line text : List ℕ) (records : List Record) (t : TellsRecords held records)
+pub over_told : (held now : Option (List (List ℕ))) (before after : ℕ) (old new : World) (number : ℕ) (line text : List ℕ) (records : List Record) (t : TellsRecords held records)
     → Steps held now before after old new number line text → StepsOver now before after old new t.texts records number line text
 over_told held now before after old new number line text records t g =
     let P : Option (List (List ℕ)) → Type 0 = λ o. Steps o now before after old new number line text in
@@ -145,6 +148,7 @@ went held faults world old records number [] out new t few h =
       last = state_of (world old) records;
       answered = (refl, refl);
       text = h.0;
+      state_is = let at : _ → State = λ m. state_of (world m) records in ap at (h.1);
       held_is = subst P (sym (h.1)) t;
       few = few;
       keeper = subst Q (sym (h.1)) (keeper_none (faults old));

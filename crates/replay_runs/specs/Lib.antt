@@ -1,9 +1,7 @@
 pub mod Commands
 pub mod Statuses
-pub mod BlockAnswers
-pub mod Views
-pub mod BlockRuns
 pub mod Unfailing
 pub mod Replays
 pub mod Loads
 pub mod Lines
+pub mod Runs

@@ -1,14 +1,17 @@
 -- What a run of `replay` leaves, by its status: the replay theorem.
-use Rattle.std.specs.Prelude.{◌≡◌, ⊤, ℕ, ◌+◌, ◌-◌, ◌≤◌, Bool, true, false, List, [], ◌++◌, length, take, count_by, Option, Some, IfSome}
+use Rattle.std.specs.Prelude.{◌≡◌, ◌⊎◌, ⊤, ℕ, ◌+◌, ◌-◌, ◌<◌, ◌≤◌, Bool, true, false, List, [], ◌∷◌, ◌++◌, length, take, count_by, Option, Some, IfSome}
 use Rattle.std.specs.Io.KnownBytes.{Appends}
 use Rattle.n32_outside.specs.Causes.{Rose, RoseBy}
 use Rattle.script_loop.specs.Limits.{script_limit}
-use Rattle.script_loop.specs.Lines.{lines_of, ended_lines, IsFirstLong, IsWithin, IsTooLarge}
+use Rattle.script_loop.specs.Lines.{lines_of, ended_lines, is_blank, IsFirstLong, IsWithin, IsTooLarge}
+use Rattle.script_loop.specs.InPart.{Takes, IsNext}
 use Rattle.spec_records.specs.Records.{Record, record_limit}
 use Rattle.spec_exchange.specs.Refusals.{Journal}
+use Rattle.spec_exchange.specs.Outside.{Choice, with_put}
 use Rattle.spec_script.specs.Refusals.{Refusal, OfCall}
-use Rattle.spec_script.specs.Steps.{State}
-use Rattle.spec_script.specs.Output.{Numbered, Answered, Output, answers_text, begin, has_refusal, is_keeper_refusal}
+use Rattle.spec_script.specs.Steps.{State, Answer, line_step}
+use Rattle.spec_script.specs.Answers.{answer_text}
+use Rattle.spec_script.specs.Output.{Numbered, Answers, Answered, Output, answers_text, begin, has_refusal, is_keeper_refusal}
 use Rattle.context_store.specs.Stores.{AreRecords}
 use Rattle.replay_world.specs.Worlds.{TellsRecords}
 use Rattle.replay_runs.specs.Unfailing.{plain_output, plain_state}
@@ -60,22 +63,53 @@ pub record RepliesToFirst (count : ℕ) (script : List ℕ) (records : List Reco
   pub held_is : TellsRecords held last.records
   pub keeper : KeeperAnswers answers faults faults'
 
--- A front of the answers to some first lines was written.
-pub record RepliesInPart (script : List ℕ) (records : List Record) (faults faults' : ℕ) (before after : Option (List ℕ)) : Type 0 where
-  pub count : ℕ
-  pub answers : List Numbered
+-- The front is one of the answer to the line behind so many, and not the whole. The keeper holds the records of the state after it.
+pub record CutsReply (script taken : List ℕ) (number : ℕ) (answers : List Numbered) (mid : State) (front : List ℕ) (held : Option (List (List ℕ))) (faults faults' : ℕ) : Type 0 where
+  pub line : List ℕ
+  pub next : IsNext script taken number line
+  pub spoken : is_blank line ≡ false
+  pub answer : Answer
   pub last : State
-  pub answered : Answered (begin records) 1 (take count (lines_of script)) answers last
-  pub size : ℕ
-  pub written : Appends before after (take size (answers_text answers))
+  pub answered : Answers mid line answer last
+  pub rest : List ℕ
+  pub some : 0 < length rest
+  pub text : answer_text (number + 1) answer ++ 10 ∷ [] ≡ front ++ rest
+  pub held_is : TellsRecords held last.records
+  pub keeper : KeeperAnswers (answers ++ (number + 1, answer) ∷ []) faults faults'
+
+-- the step of the line may have put its record
+pub record PutsUntold (script taken : List ℕ) (number : ℕ) (mid : State) (held : Option (List (List ℕ))) : Type 0 where
+  pub line : List ℕ
+  pub next : IsNext script taken number line
+  pub choice : Choice
+  pub held_is : TellsRecords held (with_put mid.records (line_step mid choice line).put)
+
+-- Memory was refused, and nothing of the next answer was written. The keeper holds the records of the state so far, and perhaps the next line's one record.
+pub record LacksMemory (script taken : List ℕ) (number : ℕ) (answers : List Numbered) (mid : State) (front : List ℕ) (held : Option (List (List ℕ))) (faults faults' : ℕ) (result : Status) : Type 0 where
+  pub memory : result ≡ status.NoMemory
+  pub none : front ≡ []
+  pub held_is : TellsRecords held mid.records ⊎ PutsUntold script taken number mid held
   pub keeper : KeeperAnswers answers faults faults'
 
--- The source failed: the lines whose newline was taken were answered.
+-- Within the limits so far, the first lines were answered, and the next one's answer was cut, or, where memory was refused, not begun.
+pub record RepliesInPart (script : List ℕ) (left : Option (List ℕ)) (records : List Record) (held : Option (List (List ℕ))) (faults faults' : ℕ) (before after : Option (List ℕ)) (result : Status) : Type 0 where
+  pub taken : List ℕ
+  pub number : ℕ
+  pub takes : Takes script left number taken
+  pub answers : List Numbered
+  pub mid : State
+  pub answered : Answered (begin records) 1 (take number (lines_of script)) answers mid
+  pub front : List ℕ
+  pub stops : CutsReply script taken number answers mid front held faults faults' ⊎ LacksMemory script taken number answers mid front held faults faults' result
+  pub written : Appends before after (answers_text answers ++ front)
+
+-- The source failed, within the limits so far: the lines whose newline was taken were answered.
 pub record StopsReading (script : List ℕ) (left : Option (List ℕ)) (records : List Record) (held : Option (List (List ℕ))) (faults faults' : ℕ) (before after : Option (List ℕ)) : Type 0 where
   pub taken : List ℕ
   pub rest : List ℕ
   pub parts : script ≡ taken ++ rest
   pub left_is : left ≡ Some rest
+  pub within : IsWithin taken
   pub replies : RepliesToFirst (ended_lines taken) script records held faults faults' before after
 
 -- The script and what is left of it; the records that were held and what is held; the keeper's faults, and what was written, before and after.
@@ -91,8 +125,8 @@ Leaves script left records held faults faults' before after (status.LineTooLong 
 -- the lines that end within the limit were answered
 Leaves script left records held faults faults' before after status.ScriptTooLarge =
     IsTooLarge script × RepliesToFirst (ended_lines (take script_limit script)) script records held faults faults' before after
-Leaves script left records held faults faults' before after status.WriteFault = RepliesInPart script records faults faults' before after
-Leaves script left records held faults faults' before after status.NoMemory = RepliesInPart script records faults faults' before after
+Leaves script left records held faults faults' before after status.WriteFault = RepliesInPart script left records held faults faults' before after status.WriteFault
+Leaves script left records held faults faults' before after status.NoMemory = RepliesInPart script left records held faults faults' before after status.NoMemory
 -- nothing was written, and the same records are held
 Leaves script left records held faults faults' before after (status.Journal k) = (after ≡ before) × TellsRecords held records
 Leaves script left records held faults faults' before after status.KeeperFault = (after ≡ before) × TellsRecords held records

@@ -4,7 +4,6 @@
 //! the keeper holds their records.
 #![tactic(auto)]
 
-mod blocks;
 mod command;
 pub mod laws;
 mod replay;
@@ -14,8 +13,3 @@ mod status;
 pub use command::{Command, journal_file, read_command};
 pub use running::run;
 pub use status::Status;
-
-#[cfg(test)]
-mod block_tests;
-#[cfg(test)]
-mod replay_tests;

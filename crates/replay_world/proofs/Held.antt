@@ -1,7 +1,7 @@
 -- A step over the records that are held.
 use Rattle.std.proofs.Common.{◌≡◌, ℕ, List, [], ◌∷◌, ◌++◌, Option, Some, None, IfOk, Result, Ok, Err, refl, sym, subst, ◌∙◌}
 use Rattle.spec_documents.specs.Tree.{Tree}
-use Rattle.n32_values.specs.Reading.{ReadsTo}
+use Rattle.spec_documents.specs.Reading.{ReadsTo}
 use Rattle.n32_values.specs.declared.memory.NoMemory.{NoMemory}
 use Rattle.spec_records.specs.Records.{Record}
 use Rattle.context_records.specs.Reading.{ReadsRecord, written}
@@ -25,7 +25,7 @@ one_tree b t u h g = let value : Some h.reading ≡ Some g.reading = sym h.has.v
 one_record : (b : List ℕ) (r q : Record) → ReadsRecord b r → ReadsRecord b q → r ≡ q
 one_record b r q h g = let same : h.tree ≡ g.tree = one_tree b h.tree g.tree h.reads g.reads in cc (same, h.is, g.is)
 
-are_one : (texts : List (List ℕ)) (rs qs : List Record) → AreRecords texts rs → AreRecords texts qs → rs ≡ qs
+pub are_one : (texts : List (List ℕ)) (rs qs : List Record) → AreRecords texts rs → AreRecords texts qs → rs ≡ qs
 are_one [] [] [] h g = refl
 are_one [] [] (q ∷ qs) h g = absurd g
 are_one [] (r ∷ rs) qs h g = absurd h
@@ -41,7 +41,7 @@ are_more (c ∷ texts) (q ∷ rs) b r all one = (all.0, are_more texts rs b r al
 
 -- ---- what is held then
 
-tells_put : (texts : List (List ℕ)) (now : Option (List (List ℕ))) (records : List Record) (put : Option Record) → AreRecords texts records → Keeps (Some texts) now put → TellsRecords now (with_put records put)
+pub tells_put : (texts : List (List ℕ)) (now : Option (List (List ℕ))) (records : List Record) (put : Option Record) → AreRecords texts records → Keeps (Some texts) now put → TellsRecords now (with_put records put)
 tells_put texts now records None are kept = record { texts = texts; told = kept; are = are }
 tells_put texts now records (Some r) are kept = record { texts = texts ++ written r ∷ []; told = kept.0; are = are_more texts records (written r) r are kept.1 }
 

@@ -5,7 +5,7 @@ use Rattle.spec_messages.specs.Message.{Message, Member, message_of, body_depth,
 use Rattle.spec_records.specs.Records.{KeySet, Context, Record}
 use Rattle.spec_exchange.specs.Chain.{◌>>=◌, unless, none_of, or_refused}
 use Rattle.spec_exchange.specs.Refusals as exchange
-use Rattle.spec_exchange.specs.Received.{Received}
+use Rattle.spec_sealing.specs.Received.{Received}
 use Rattle.spec_exchange.specs.Outside.{Choice, Reading, Read, ReadFails, BadRecord, Putting, Kept, Lost, KeptUntold, Outcome, behind_reading, or_refusal}
 use Rattle.spec_exchange.specs.Outside as outside
 use Rattle.spec_exchange.specs.FirstFailed.{Delivery, first_failed_of, first_failed}
@@ -13,7 +13,7 @@ use Rattle.spec_exchange.specs.Calls.{Sealed, Asks, delivered_record, sent_recor
 use Rattle.spec_script.specs.Refusals.{Refusal, DeepBody, OfCall}
 use Rattle.spec_script.specs.Messages.{shallow_message}
 use Rattle.serde_json.specs.Data.{Data}
-use Rattle.n32_values.specs.Reading.{tree_from}
+use Rattle.spec_documents.specs.Reading.{tree_from}
 use Rattle.spec_documents.specs.Place as place
 use Rattle.spec_script.specs.LineTree.{text_value, value_tree, or_other_number}
 use Rattle.spec_script.specs.Events.{Event, AddNode, AddContext, AddKeys, Send, Inject, Deliver, Restart, event_of, or_bad_event, line_event}

@@ -10,15 +10,17 @@ use Rattle.spec_records.specs.Records.{OneKey, Context, Record}
 use Rattle.context_store.specs.Stores.{Stored}
 use Rattle.spec_exchange.specs.Chain.{◌>>=◌, unless}
 use Rattle.spec_exchange.specs.Refusals as exchange
-use Rattle.spec_exchange.specs.Jwe.{carrier, sealed, content_key, nonce}
-use Rattle.spec_exchange.specs.Rebuilding.{plaintext}
+use Rattle.spec_sealing.specs.Suites.{content_key}
+use Rattle.spec_sealing.specs.Jwe.{Jwe, sealed}
+use Rattle.spec_sealing.specs.Plaintext.{plaintext}
+use Rattle.spec_sealing.specs.Received.{carrier}
+use Rattle.spec_exchange.specs.Nonce.{nonce}
 use Rattle.spec_exchange.specs.Outside.{Reading, Read, ReadFails, BadRecord, Putting, Kept, Lost, KeptUntold, puts, behind_reading, or_refusal}
 use Rattle.spec_exchange.specs.Calls.{Sealed, Outgoing, Asks, protected, sent_record, sealed_document, sent_block_of, message_id, send_key, kind_of_outgoing}
 use Rattle.spec_script.specs.Refusals.{Refusal, BadEvent, OfCall}
 use Rattle.spec_script.specs.Messages.{message_in}
 use Rattle.spec_script.specs.Steps.{is_response, request_to_send}
 use Rattle.sending_sepp.specs.Outcome as sent
-use Rattle.jwe_flat.specs.declared.jwe.FlatJwe.{FlatJwe}
 use Rattle.script_answers.specs.View.{refusal_view}
 use Rattle.replay_world.specs.declared.unanswered.Unanswered.{Unanswered}
 use Rattle.replay_world.specs.declared.unanswered.Unanswered.TheVariants as unanswered
@@ -63,7 +65,7 @@ bind_low (Err e) k h = record { low = λ s is. cc }
 ok_low : (s : Sealed) → IsShallow s.document → AllLow (Ok s)
 ok_low s h = record { low = λ t is. let same : s ≡ t = cc in subst (λ (z : Sealed). IsShallow z.document) same h }
 
-carrier_low : (w : FlatJwe) → IsShallow (carrier w)
+carrier_low : (w : Jwe) → IsShallow (carrier w)
 carrier_low w = let two : depth (carrier w) ≡ 2 = refl in omega (arith, two)
 
 document_of_low : (x : Context) (k : OneKey) (seq : ℕ) (b : Block) (vs : List Tree) → IsShallow (sealed_document x k seq b vs)

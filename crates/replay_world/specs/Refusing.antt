@@ -13,6 +13,7 @@ use Rattle.spec_exchange.specs.Refusals as exchange
 use Rattle.spec_script.specs.Refusals as spec
 use Rattle.script_answers.specs.declared.refusal.Refusal.TheVariants as refusals
 use Rattle.script_answers.specs.View.{limit_view, why_view, refusal_view}
+use Rattle.jwe_flat.specs.View.{misfit_view}
 use Rattle.replay_world.specs.declared.unanswered.Unanswered.{Unanswered}
 use Rattle.replay_world.specs.declared.unanswered.Unanswered.TheVariants as unanswered
 
@@ -63,7 +64,7 @@ receiving_refusal (receiving.Form member) = Some (exchange.Form member)
 receiving_refusal receiving.NotBuilt = Some exchange.NotBuilt
 receiving_refusal receiving.ContextNotFound = Some exchange.NoContext
 receiving_refusal receiving.NoKeys = Some exchange.NoReceiveKeys
-receiving_refusal (receiving.Cipher why) = Some (exchange.Cipher why)
+receiving_refusal (receiving.Cipher why) = Some (exchange.Cipher (misfit_view why))
 receiving_refusal receiving.Integrity = Some exchange.Integrity
 receiving_refusal (receiving.Replay number) = Some (exchange.Replay number)
 receiving_refusal (receiving.Reconstruction why) = Some (exchange.Reconstruction (why_view why))

@@ -15,6 +15,7 @@ use Rattle.block_forms.specs.declared.fault.BlockWhy.{BlockWhy}
 use Rattle.block_forms.specs.declared.fault.BlockWhy.TheVariants as blocks
 use Rattle.receiving_sepp.specs.declared.refused.RebuildWhy.{RebuildWhy}
 use Rattle.receiving_sepp.specs.declared.refused.RebuildWhy.TheVariants.{Values, Block, NotText, Depth}
+use Rattle.jwe_flat.specs.View.{misfit_view}
 use Rattle.script_answers.specs.declared.refusal.Refusal.{Refusal}
 use Rattle.script_answers.specs.declared.refusal.Refusal.TheVariants as refusals
 
@@ -63,7 +64,7 @@ refusal_view (refusals.PolicyForm mapping) = spec.BadPolicy mapping
 refusal_view (refusals.Form member) = spec.OfCall (exchange.Form member)
 refusal_view refusals.NoContext = spec.OfCall exchange.NoContext
 refusal_view refusals.NoReceiveKeys = spec.OfCall exchange.NoReceiveKeys
-refusal_view (refusals.Cipher why) = spec.OfCall (exchange.Cipher why)
+refusal_view (refusals.Cipher why) = spec.OfCall (exchange.Cipher (misfit_view why))
 refusal_view refusals.Integrity = spec.OfCall exchange.Integrity
 refusal_view (refusals.Replay number) = spec.OfCall (exchange.Replay number)
 refusal_view (refusals.Reconstruction why) = spec.OfCall (exchange.Reconstruction (why_view why))

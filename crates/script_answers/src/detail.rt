@@ -4,6 +4,7 @@ ghost use Rattle.std.specs.Fmt.{decimal};
 ghost use Rattle.spec_script.specs.RefusalTexts as spec;
 ghost use Rattle.http_message.specs.Reading.{member_view};
 ghost use Rattle.enc_index.specs.Places.{place_view};
+ghost use Rattle.jwe_flat.specs.View.{misfit_view};
 ghost use Rattle.spec_messages.specs.Limits as limits;
 ghost use Rattle.block_forms.specs.Faults as faults;
 ghost use Rattle.script_answers.specs.View.{fault_view, limit_view, refusal_view, why_view};
@@ -51,7 +52,7 @@ fn limit_name(limit: LimitName) -> &'static str
 }
 
 fn cipher_name(why: CipherWhy) -> &'static str
-    ensures { result.now ≡ spec.cipher_name why }
+    ensures { result.now ≡ spec.cipher_name (misfit_view why) }
 {
     match why {
         CipherWhy::Alg => "alg",

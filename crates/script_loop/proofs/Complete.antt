@@ -6,6 +6,7 @@ use Rattle.std.proofs.lemmas.Option.{slice_get_within, unwrap_or-slice_get}
 use Rattle.script_loop.specs.Limits.{line_limit, script_limit}
 use Rattle.script_loop.specs.Lines.{lines_of, IsShort, IsFirstLong, IsWithin}
 use Rattle.script_loop.specs.Outputs.{Gives}
+use Rattle.script_loop.specs.InPart.{GivesUp}
 use Rattle.script_loop.specs.Ends.{Ends, MeetsNoLimit}
 use Rattle.script_loop.specs.declared.ending.Ending.{Ending}
 use Rattle.script_loop.specs.declared.ending.Ending.TheVariants.{Done, ReadFault, WriteFault, LineTooLong, ScriptTooLarge, NoMemory}
@@ -19,7 +20,7 @@ within_long script n within f =
     let short : length f.line ≤ line_limit = subst IsShort is (within.lines (n - 1) f.line (slice_get_within (lines_of script) (n - 1) f.line there)) in
     omega (arith, short, f.long)
 
-meets_none : {M : Type 0} (gives : Gives M) (gives_up : M → M → Type 0) (script : List ℕ) (left : Option (List ℕ)) (old new : M) (before after : Option (List ℕ)) (ending : Ending)
+meets_none : {M : Type 0} (gives : Gives M) (gives_up : GivesUp M) (script : List ℕ) (left : Option (List ℕ)) (old new : M) (before after : Option (List ℕ)) (ending : Ending)
     → Ends gives gives_up script left old new before after ending → IsWithin script → MeetsNoLimit ending
 meets_none gives gives_up script left old new before after Done e within = tt
 meets_none gives gives_up script left old new before after ReadFault e within = tt
@@ -28,7 +29,7 @@ meets_none gives gives_up script left old new before after NoMemory e within = t
 meets_none gives gives_up script left old new before after (LineTooLong n) e within = within_long script n within e.0
 meets_none gives gives_up script left old new before after ScriptTooLarge e within = absurd (omega (arith, within.size, e.0.size))
 
-pub complete_told : {M : Type 0} (gives : Gives M) (gives_up : M → M → Type 0) (first left : Option (List ℕ)) (old new : M) (before after : Option (List ℕ)) (ending : Ending)
+pub complete_told : {M : Type 0} (gives : Gives M) (gives_up : GivesUp M) (first left : Option (List ℕ)) (old new : M) (before after : Option (List ℕ)) (ending : Ending)
     → IfSome first (λ script. Ends gives gives_up script left old new before after ending)
     → IfSome first (λ script. IsWithin script → MeetsNoLimit ending)
 complete_told gives gives_up None left old new before after ending ends = tt

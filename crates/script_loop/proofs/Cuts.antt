@@ -1,5 +1,5 @@
 -- The lines of a text that is put together from lines.
-use Rattle.std.proofs.Common.{◌≡◌, ◌≢◌, ◌+◌, ℕ, false, cond, eqb, List, [], ◌∷◌, ◌++◌, length, take, refl, ap, ◌∙◌, inl, inr, append_assoc, zero-add, add-one}
+use Rattle.std.proofs.Common.{◌≡◌, ◌≢◌, ◌+◌, ℕ, false, cond, eqb, List, [], ◌∷◌, ◌++◌, length, take, refl, ap, sym, ◌∙◌, arith, inl, inr, append_assoc, zero-add, add-one}
 use Rattle.std.specs.List.{onto_first, AllByRecursion}
 use Rattle.std.proofs.lemmas.Bool.Decides.{eqb_tells}
 use Rattle.std.proofs.lemmas.List.{take_at}
@@ -64,3 +64,10 @@ ended_in_unlines [] begun each plain = ended_in_plain begun plain
 ended_in_unlines (line ∷ lines) begun each plain =
     ap ended_lines (append_assoc (ended line) (unlines lines) begun ∙ append_assoc line (10 ∷ []) (unlines lines ++ begun))
     ∙ (ended_in_line line (unlines lines ++ begun) each.0.plain ∙ (ap (λ n. n + 1) (ended_in_unlines lines begun each.1 plain) ∙ add-one (length lines)))
+
+pub ended_after : (lines : List (List ℕ)) (rest : List ℕ) → AllByRecursion IsLine lines → ended_lines (unlines lines ++ rest) ≡ length lines + ended_lines rest
+ended_after [] rest each = sym (zero-add (ended_lines rest))
+ended_after (line ∷ lines) rest each =
+    let cut : ended_lines (unlines (line ∷ lines) ++ rest) ≡ ended_lines (unlines lines ++ rest) + 1 =
+    ap ended_lines (append_assoc (ended line) (unlines lines) rest ∙ append_assoc line (10 ∷ []) (unlines lines ++ rest)) ∙ ended_in_line line (unlines lines ++ rest) each.0.plain in
+    omega (arith, cut, ended_after lines rest each.1)

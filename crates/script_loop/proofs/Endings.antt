@@ -1,26 +1,26 @@
 -- From the steps of a run to what it leaves of the whole script.
-use Rattle.std.proofs.Common.{◌≡◌, ◌≢◌, ◌⊎◌, ◌+◌, ◌-◌, ◌≤◌, ◌<◌, ℕ, List, [], ◌∷◌, ◌++◌, length, take, refl, ap, sym, subst, ◌∙◌, inl, inr, append-nil, append_assoc, arith, length-append, Some, None}
+use Rattle.std.proofs.Common.{◌≡◌, ◌≢◌, ◌⊎◌, ◌+◌, ◌-◌, ◌≤◌, ◌<◌, ℕ, List, [], ◌∷◌, ◌++◌, length, take, refl, ap, sym, subst, ◌∙◌, inl, inr, append-nil, append_assoc, arith, length-append, Some, None, IfSome}
 use Rattle.std.specs.Prelude.{Option, slice_get}
 use Rattle.std.specs.List.{All, AllByRecursion}
 use Rattle.std.specs.Io.KnownBytes.{Appends, Keeps, Consumes, IsAtEnd}
 use Rattle.std.proofs.KnownBytes.{Appends-trans, Appends-nil, Consumes-trans}
 use Rattle.std.proofs.lemmas.Bool.Decides.{eqb_tells}
 use Rattle.std.proofs.Math.Seq.{take-append-add}
-use Rattle.std.proofs.lemmas.List.{take_all, take_at}
+use Rattle.std.proofs.lemmas.List.{take_at}
 use Rattle.std.proofs.lemmas.List.Elements.{All-append, All-nil, All-cons, All-from_recursion, All-weaker}
 use Rattle.script_loop.specs.Limits.{line_limit, script_limit}
 use Rattle.script_loop.specs.Lines.{lines_of, ended_lines, IsShort, IsFirstLong, IsWithin}
-use Rattle.script_loop.specs.Outputs.{Gives, LineOutput, Outputs}
-use Rattle.script_loop.specs.Progress.{IsPlain, IsLine, unlines, ended, MeetsLong, StopsAmong, StopsInLine, Reaches}
+use Rattle.script_loop.specs.Outputs.{Gives, Outputs}
+use Rattle.script_loop.specs.InPart.{GivesUp, StopsAnswer, Takes, IsNext}
+use Rattle.script_loop.specs.Progress.{IsPlain, IsLine, unlines, ended, MeetsLong, BeginsEnded, StopsAmong, StopsInLine, Reaches}
 use Rattle.script_loop.specs.Stops.{Stops, Finishes, PassesLimit}
 use Rattle.script_loop.specs.Ends.{Answers, AnswersInPart, Ends}
 use Rattle.script_loop.specs.declared.ending.Ending.{Ending}
 use Rattle.script_loop.specs.declared.ending.Ending.TheVariants.{Done, ReadFault, WriteFault, LineTooLong, ScriptTooLarge, NoMemory}
-use Rattle.script_loop.proofs.Cuts.{lines_of_unlines, first_lines, ended_in_unlines, lines_of_begun, lines_of_ended}
-use Rattle.script_loop.proofs.Runs.{Outputs-one, Outputs-append}
+use Rattle.script_loop.proofs.Cuts.{lines_of_unlines, first_lines, ended_in_unlines, ended_after, lines_of_begun, lines_of_ended}
+use Rattle.script_loop.proofs.Runs.{Outputs-append}
 use Rattle.script_loop.proofs.Steps.{by_recursion_append}
 use Rattle.script_loop.proofs.Last.{last_line}
-use Rattle.script_loop.proofs.Stopping.{Appends-kept}
 
 -- the parts of a script that is told
 pub parts_of : (script : List ℕ) (left : Option (List ℕ)) (bytes : List ℕ) → Consumes (Some script) left bytes → (rest : List ℕ) × (left ≡ Some rest) × (script ≡ bytes ++ rest)
@@ -36,11 +36,23 @@ fed_first lines more text rest script each whole parts =
 pub all_short : (lines : List (List ℕ)) → AllByRecursion IsLine lines → All IsShort lines
 all_short lines each = All-weaker IsLine IsShort (λ line is. is.short) lines (All-from_recursion IsLine lines each)
 
+pub short_last : (line : List ℕ) → IsLine line → All IsShort (lines_of line)
+short_last [] is = All-nil IsShort
+short_last (byte ∷ bytes) is = subst (λ (ls : List (List ℕ)). All IsShort ls) (sym (last_line (byte ∷ bytes) (omega arith) is.plain)) (All-cons IsShort (byte ∷ bytes) [] is.short (All-nil IsShort))
+
+-- what was fed is within the limits
+fed_lines : (lines : List (List ℕ)) (line text : List ℕ) → text ≡ unlines lines ++ (line ++ []) → AllByRecursion IsLine lines → lines_of text ≡ lines ++ lines_of line
+fed_lines lines line text whole each = ap lines_of (whole ∙ ap (λ z. unlines lines ++ z) (append-nil line)) ∙ lines_of_unlines lines line each
+
+fed_short : (lines : List (List ℕ)) (line text : List ℕ) → text ≡ unlines lines ++ (line ++ []) → AllByRecursion IsLine lines → IsLine line → All IsShort (lines_of text)
+fed_short lines line text whole each is =
+    subst (λ (ls : List (List ℕ)). All IsShort ls) (sym (fed_lines lines line text whole each)) (All-append IsShort lines (lines_of line) (all_short lines each) (short_last line is))
+
 -- a fault of the source
-pub read_fault : {M : Type 0} (gives : Gives M) (gives_up : M → M → Type 0) (script : List ℕ) (left left' : Option (List ℕ)) (old new : M) (taken count : ℕ) (line : List ℕ) (before after : Option (List ℕ))
-    → Reaches gives old new taken count line (Some script) left before after → Keeps left left'
+pub read_fault : {M : Type 0} (gives : Gives M) (gives_up : GivesUp M) (script : List ℕ) (left left' : Option (List ℕ)) (old new : M) (taken count : ℕ) (line : List ℕ) (before after : Option (List ℕ))
+    → Reaches gives old new taken count line (Some script) left before after → Keeps left left' → taken ≤ script_limit
     → Ends gives gives_up script left' old new before after ReadFault
-read_fault gives gives_up script left left' old new taken count line before after r kept =
+read_fault gives gives_up script left left' old new taken count line before after r kept size =
     let p = parts_of script left r.bytes r.consumed in
     let kept' : Keeps (Some p.0) left' = subst (λ (o : Option (List ℕ)). Keeps o left') p.1 kept in
     let f = r.fed in
@@ -53,6 +65,7 @@ read_fault gives gives_up script left left' old new taken count line before afte
       rest = p.0;
       parts = p.2;
       left_is = still p.0 left' kept';
+      within = record { size = omega (arith, r.size, size); lines = fed_short f.lines line r.bytes f.whole f.each f.line };
       answers = record { out = f.out; answered = subst (λ (ls : List (List ℕ)). Outputs gives old 1 ls f.out new) (sym first) f.answered; written = f.written };
     }
   where
@@ -79,7 +92,7 @@ first_long n lines (byte ∷ begun) more counted each plain long =
     }
 
 -- a line is too long
-pub long_ends : {M : Type 0} (gives : Gives M) (gives_up : M → M → Type 0) (script text rest : List ℕ) (left : Option (List ℕ)) (old new : M) (n : ℕ) (before after : Option (List ℕ))
+pub long_ends : {M : Type 0} (gives : Gives M) (gives_up : GivesUp M) (script text rest : List ℕ) (left : Option (List ℕ)) (old new : M) (n : ℕ) (before after : Option (List ℕ))
     → script ≡ text ++ rest → length text ≤ script_limit + 1 → MeetsLong gives old 0 text new n before after
     → Ends gives gives_up script left old new before after (LineTooLong n)
 long_ends gives gives_up script text rest left old new n before after parts size s =
@@ -96,34 +109,83 @@ long_ends gives gives_up script text rest left old new n before after parts size
     let long = subst (IsFirstLong n) (sym lines) (first_long n s.lines s.begun (s.rest ++ more) s.counted s.each s.plain s.long) in
     (long, record { out = s.out; answered = subst (λ (ls : List (List ℕ)). Outputs gives old 1 ls s.out new) (sym first) s.answered; written = s.written })
 
+-- ---- the line at hand
+
+short_next : (line rest : List ℕ) → IsLine line → (rest ≡ []) ⊎ BeginsEnded rest → All IsShort (take 1 (lines_of (line ++ rest)))
+short_next [] rest is (inl none) = subst (λ (z : List ℕ). All IsShort (take 1 (lines_of z))) (sym none) (All-nil IsShort)
+short_next (byte ∷ bytes) rest is (inl none) =
+    let lines : lines_of ((byte ∷ bytes) ++ rest) ≡ (byte ∷ bytes) ∷ [] =
+    ap (λ z. lines_of ((byte ∷ bytes) ++ z)) none ∙ (ap lines_of (append-nil (byte ∷ bytes)) ∙ last_line (byte ∷ bytes) (omega arith) is.plain) in
+    subst (λ (ls : List (List ℕ)). All IsShort (take 1 ls)) (sym lines) (All-cons IsShort (byte ∷ bytes) [] is.short (All-nil IsShort))
+short_next line rest is (inr after) =
+    let lines : lines_of (line ++ rest) ≡ line ∷ lines_of after.0 = ap (λ z. lines_of (line ++ z)) after.1 ∙ lines_of_ended line after.0 is.plain in
+    subst (λ (ls : List (List ℕ)). All IsShort (take 1 ls)) (sym lines) (All-cons IsShort line [] is.short (All-nil IsShort))
+
+takes_of : (script text more : List ℕ) (left : Option (List ℕ)) (lines : List (List ℕ)) (line rest : List ℕ)
+    → script ≡ text ++ more → left ≡ Some more → length text ≤ script_limit → text ≡ unlines lines ++ (line ++ rest) → AllByRecursion IsLine lines → IsLine line → (rest ≡ []) ⊎ BeginsEnded rest
+    → Takes script left (length lines) text
+takes_of script text more left lines line rest parts gone size whole each is ended =
+    let cut : lines_of text ≡ lines ++ lines_of (line ++ rest) = ap lines_of whole ∙ lines_of_unlines lines (line ++ rest) each in
+    let first : take (length lines + 1) (lines_of text) ≡ lines ++ take 1 (lines_of (line ++ rest)) = ap (take (length lines + 1)) cut ∙ take-append-add lines (lines_of (line ++ rest)) 1 in
+    record {
+      rest = more;
+      parts = parts;
+      left_is = gone;
+      size = size;
+      ended = omega (arith, ap ended_lines whole, ended_after lines (line ++ rest) each);
+      short = subst (λ (ls : List (List ℕ)). All IsShort ls) (sym first) (All-append IsShort lines (take 1 (lines_of (line ++ rest))) (all_short lines each) (short_next line rest is ended));
+    }
+
+-- a line that has ended stands behind these lines
+line_there : (text : List ℕ) (lines : List (List ℕ)) (line after : List ℕ) → text ≡ unlines lines ++ (line ++ 10 ∷ after) → AllByRecursion IsLine lines → IsLine line → slice_get (lines_of text) (length lines) ≡ Some line
+line_there text lines line after whole each is =
+    let cut : lines_of text ≡ lines ++ line ∷ lines_of after =
+    ap lines_of whole ∙ (lines_of_unlines lines (line ++ 10 ∷ after) each ∙ ap (λ ls. lines ++ ls) (lines_of_ended line after is.plain)) in
+    ap (λ ls. slice_get ls (length lines)) cut ∙ get_at lines line (lines_of after)
+
+next_of : (script text more : List ℕ) (lines : List (List ℕ)) (line rest : List ℕ) → script ≡ text ++ more → text ≡ unlines lines ++ (line ++ rest) → AllByRecursion IsLine lines → IsLine line → BeginsEnded rest
+    → IsNext script text (length lines) line
+next_of script text more lines line rest parts whole each is after =
+    let own : text ≡ unlines lines ++ (line ++ 10 ∷ after.0) = whole ∙ ap (λ z. unlines lines ++ (line ++ z)) after.1 in
+    let all : script ≡ unlines lines ++ (line ++ 10 ∷ (after.0 ++ more)) =
+    parts ∙ (ap (λ z. z ++ more) own ∙ (append_assoc (unlines lines) (line ++ 10 ∷ after.0) more ∙ ap (λ z. unlines lines ++ z) (append_assoc line (10 ∷ after.0) more))) in
+    record { there = line_there script lines line (after.0 ++ more) all each is; whole = line_there text lines line after.0 own each is }
+
 -- it stops among the lines
-pub among_ends : {M : Type 0} (gives : Gives M) (gives_up : M → M → Type 0) (script text rest : List ℕ) (old new : M) (before after : Option (List ℕ))
-    → script ≡ text ++ rest → StopsAmong gives gives_up old 0 text new before after
-    → AnswersInPart gives gives_up old script new before after
-among_ends gives gives_up script text rest old new before after parts s = record {
-  number = length s.lines;
-  out = s.out;
-  mid = s.mid;
-  answered = subst (λ (ls : List (List ℕ)). Outputs gives old 1 ls s.out s.mid) (sym (fed_first s.lines s.rest text rest script s.each s.whole parts)) s.answered;
-  left = s.left;
-  count = s.count;
-  written = s.written;
-}
+pub among_ends : {M : Type 0} (gives : Gives M) (gives_up : GivesUp M) (script text rest : List ℕ) (left : Option (List ℕ)) (old new : M) (before after : Option (List ℕ)) (ending : Ending)
+    → script ≡ text ++ rest → left ≡ Some rest → length text ≤ script_limit → StopsAmong gives gives_up old 0 text new before after ending
+    → AnswersInPart gives gives_up old script left new before after ending
+among_ends gives gives_up script text rest left old new before after ending parts gone size s =
+    let next : 0 + length s.lines + 1 ≡ length s.lines + 1 = omega arith in
+    record {
+      taken = text;
+      number = length s.lines;
+      takes = takes_of script text rest left s.lines s.line s.rest parts gone size s.whole s.each s.is s.ended;
+      out = s.out;
+      mid = s.mid;
+      answered = subst (λ (ls : List (List ℕ)). Outputs gives old 1 ls s.out s.mid) (sym (fed_first s.lines (s.line ++ s.rest) text rest script s.each s.whole parts)) s.answered;
+      front = s.front;
+      stops = elim s.stops [
+        | inl e ↦ inl (record {
+          line = s.line;
+          next = next_of script text rest s.lines s.line s.rest parts s.whole s.each s.is e.0;
+          stops = subst (λ (n : ℕ). StopsAnswer gives gives_up s.mid n s.line s.front new ending) next e.1;
+        })
+        | inr u ↦ inr u
+      ];
+      written = s.written;
+    }
 
 -- the next bytes stop it
-pub feed_ends : {M : Type 0} (gives : Gives M) (gives_up : M → M → Type 0) (script text rest : List ℕ) (left : Option (List ℕ)) (old new : M) (before after : Option (List ℕ)) (ending : Ending)
-    → script ≡ text ++ rest → length text ≤ script_limit + 1 → Stops gives gives_up old 0 text new before after ending
+pub feed_ends : {M : Type 0} (gives : Gives M) (gives_up : GivesUp M) (script text rest : List ℕ) (left : Option (List ℕ)) (old new : M) (before after : Option (List ℕ)) (ending : Ending)
+    → script ≡ text ++ rest → left ≡ Some rest → length text ≤ script_limit → Stops gives gives_up old 0 text new before after ending
     → Ends gives gives_up script left old new before after ending
-feed_ends gives gives_up script text rest left old new before after WriteFault parts size s = among_ends gives gives_up script text rest old new before after parts s
-feed_ends gives gives_up script text rest left old new before after NoMemory parts size s = among_ends gives gives_up script text rest old new before after parts s
-feed_ends gives gives_up script text rest left old new before after (LineTooLong n) parts size s = long_ends gives gives_up script text rest left old new n before after parts size s
-feed_ends gives gives_up script text rest left old new before after Done parts size s = absurd s
-feed_ends gives gives_up script text rest left old new before after ReadFault parts size s = absurd s
-feed_ends gives gives_up script text rest left old new before after ScriptTooLarge parts size s = absurd s
-
-pub short_last : (line : List ℕ) → IsLine line → All IsShort (lines_of line)
-short_last [] is = All-nil IsShort
-short_last (byte ∷ bytes) is = subst (λ (ls : List (List ℕ)). All IsShort ls) (sym (last_line (byte ∷ bytes) (omega arith) is.plain)) (All-cons IsShort (byte ∷ bytes) [] is.short (All-nil IsShort))
+feed_ends gives gives_up script text rest left old new before after WriteFault parts gone size s = among_ends gives gives_up script text rest left old new before after WriteFault parts gone size s
+feed_ends gives gives_up script text rest left old new before after NoMemory parts gone size s = among_ends gives gives_up script text rest left old new before after NoMemory parts gone size s
+feed_ends gives gives_up script text rest left old new before after (LineTooLong n) parts gone size s = long_ends gives gives_up script text rest left old new n before after parts (omega (arith, size)) s
+feed_ends gives gives_up script text rest left old new before after Done parts gone size s = absurd s
+feed_ends gives gives_up script text rest left old new before after ReadFault parts gone size s = absurd s
+feed_ends gives gives_up script text rest left old new before after ScriptTooLarge parts gone size s = absurd s
 
 -- the script was read to its end
 pub finish_done : {M : Type 0} (gives : Gives M) (script : List ℕ) (old mid new : M) (taken count : ℕ) (line : List ℕ) (first left : Option (List ℕ)) (before between after : Option (List ℕ)) (r : Reaches gives old mid taken count line first left before between)
@@ -131,13 +193,12 @@ pub finish_done : {M : Type 0} (gives : Gives M) (script : List ℕ) (old mid ne
     → IsWithin script × Answers gives old (lines_of script) new before after
 finish_done gives script old mid new taken count line first left before between after r same size last =
     let f = r.fed in
-    let lines : lines_of script ≡ f.lines ++ lines_of line =
-    ap lines_of (same ∙ (f.whole ∙ ap (λ z. unlines f.lines ++ z) (append-nil line))) ∙ lines_of_unlines f.lines line f.each in
+    let lines : lines_of script ≡ f.lines ++ lines_of line = fed_lines f.lines line script (same ∙ f.whole) f.each in
     let place : count + 1 ≡ 1 + length f.lines = omega (arith, f.counted) in
     let more = subst (λ (n : ℕ). Outputs gives mid n (lines_of line) last.0 new) place last.1 in (
       record {
         size = omega (arith, ap length same, r.size);
-        lines = subst (λ (ls : List (List ℕ)). All IsShort ls) (sym lines) (All-append IsShort f.lines (lines_of line) (all_short f.lines f.each) (short_last line f.line));
+        lines = fed_short f.lines line script (same ∙ f.whole) f.each f.line;
       },
       record {
         out = f.out ++ last.0;
@@ -147,40 +208,33 @@ finish_done gives script old mid new taken count line first left before between 
     )
 
 -- the answer to the last line stops
-pub finish_stops : {M : Type 0} (gives : Gives M) (gives_up : M → M → Type 0) (script : List ℕ) (old mid new : M) (taken count : ℕ) (line : List ℕ) (first left : Option (List ℕ)) (before between after : Option (List ℕ)) (r : Reaches gives old mid taken count line first left before between)
-    → script ≡ r.bytes → 0 < length line → StopsInLine gives gives_up mid (count + 1) line new between after
-    → AnswersInPart gives gives_up old script new before after
-finish_stops gives gives_up script old mid new taken count line first left before between after r same some (inl w) =
+pub finish_stops : {M : Type 0} (gives : Gives M) (gives_up : GivesUp M) (script : List ℕ) (old mid new : M) (taken count : ℕ) (line : List ℕ) (first left left' : Option (List ℕ)) (before between after : Option (List ℕ)) (ending : Ending) (r : Reaches gives old mid taken count line first left before between)
+    → script ≡ r.bytes → left' ≡ Some [] → taken ≤ script_limit → 0 < length line → StopsInLine gives gives_up mid (count + 1) line new between after ending
+    → AnswersInPart gives gives_up old script left' new before after ending
+finish_stops gives gives_up script old mid new taken count line first left left' before between after ending r same gone size some w =
     let f = r.fed in
-    let lines : lines_of script ≡ f.lines ++ line ∷ [] =
-    ap lines_of (same ∙ (f.whole ∙ ap (λ z. unlines f.lines ++ z) (append-nil line))) ∙ (lines_of_unlines f.lines line f.each ∙ ap (λ ls. f.lines ++ ls) (last_line line some f.line.plain)) in
-    let place : count + 1 ≡ 1 + length f.lines = omega (arith, f.counted) in
-    let next = subst (λ (n : ℕ). LineOutput gives mid n line w.0 new) place w.2 in
-    let run = Outputs-append gives old 1 f.lines (line ∷ []) f.out w.0 mid new f.answered (Outputs-one gives mid _ line w.0 new next) in
-    let all : take (length (lines_of script)) (lines_of script) ≡ f.lines ++ line ∷ [] = take_all (length (lines_of script)) (lines_of script) (omega arith) ∙ lines in
+    let place : count + 1 ≡ length f.lines + 1 = omega (arith, f.counted) in
+    let parts : script ≡ r.bytes ++ [] = same ∙ sym (append-nil r.bytes) in
+    let own : lines_of r.bytes ≡ f.lines ++ line ∷ [] = fed_lines f.lines line r.bytes f.whole f.each ∙ ap (λ ls. f.lines ++ ls) (last_line line some f.line.plain) in
+    let whole : slice_get (lines_of r.bytes) (length f.lines) ≡ Some line = ap (λ ls. slice_get ls (length f.lines)) own ∙ get_at f.lines line [] in
     record {
-      number = length (lines_of script);
-      out = f.out ++ w.0;
-      mid = new;
-      answered = subst (λ (ls : List (List ℕ)). Outputs gives old 1 ls (f.out ++ w.0) new) (sym all) run;
-      left = inl refl;
-      count = length f.out + w.1;
-      written = subst (Appends before after) (sym (take-append-add f.out w.0 w.1)) (Appends-trans before between after f.out (take w.1 w.0) f.written w.3);
-    }
-finish_stops gives gives_up script old mid new taken count line first left before between after r same some (inr w) =
-    let f = r.fed in
-    record {
+      taken = r.bytes;
       number = length f.lines;
+      takes = takes_of script r.bytes [] left' f.lines line [] parts gone (omega (arith, r.size, size)) f.whole f.each f.line (inl refl);
       out = f.out;
       mid = mid;
-      answered = subst (λ (ls : List (List ℕ)). Outputs gives old 1 ls f.out mid) (sym (fed_first f.lines (line ++ []) r.bytes [] script f.each f.whole (same ∙ sym (append-nil r.bytes)))) f.answered;
-      left = inr w.0;
-      count = length f.out;
-      written = subst (Appends before after) (sym (take_all (length f.out) f.out (omega arith))) (Appends-kept before between after f.out f.written w.1);
+      answered = subst (λ (ls : List (List ℕ)). Outputs gives old 1 ls f.out mid) (sym (fed_first f.lines (line ++ []) r.bytes [] script f.each f.whole parts)) f.answered;
+      front = w.front;
+      stops = inl (record {
+        line = line;
+        next = record { there = ap (λ z. slice_get (lines_of z) (length f.lines)) same ∙ whole; whole = whole };
+        stops = subst (λ (n : ℕ). StopsAnswer gives gives_up mid n line w.front new ending) place w.stops;
+      });
+      written = Appends-trans before between after f.out w.front f.written w.written;
     }
 
 -- the source is at its end
-pub finish_ends : {M : Type 0} (gives : Gives M) (gives_up : M → M → Type 0) (script : List ℕ) (left left' : Option (List ℕ)) (old mid new : M) (taken count : ℕ) (line : List ℕ) (before between after : Option (List ℕ)) (ending : Ending)
+pub finish_ends : {M : Type 0} (gives : Gives M) (gives_up : GivesUp M) (script : List ℕ) (left left' : Option (List ℕ)) (old mid new : M) (taken count : ℕ) (line : List ℕ) (before between after : Option (List ℕ)) (ending : Ending)
     → Reaches gives old mid taken count line (Some script) left before between → Consumes left left' [] → IsAtEnd left' → taken ≤ script_limit → Finishes gives gives_up mid count line new between after ending
     → Ends gives gives_up script left' old new before after ending
 finish_ends gives gives_up script left left' old mid new taken count line before between after ending r none end size finishes =
@@ -195,8 +249,8 @@ finish_ends gives gives_up script left left' old mid new taken count line before
 
     by_ending : (ending : Ending) → script ≡ r.bytes → left' ≡ Some [] → Finishes gives gives_up mid count line new between after ending → Ends gives gives_up script left' old new before after ending
     by_ending Done same gone h = let d = finish_done gives script old mid new taken count line (Some script) left before between after r same size h in (d.0, gone, d.1)
-    by_ending WriteFault same gone h = finish_stops gives gives_up script old mid new taken count line (Some script) left before between after r same h.1 h.0
-    by_ending NoMemory same gone h = finish_stops gives gives_up script old mid new taken count line (Some script) left before between after r same h.1 h.0
+    by_ending WriteFault same gone h = finish_stops gives gives_up script old mid new taken count line (Some script) left left' before between after WriteFault r same gone size h.1 h.0
+    by_ending NoMemory same gone h = finish_stops gives gives_up script old mid new taken count line (Some script) left left' before between after NoMemory r same gone size h.1 h.0
     by_ending ReadFault same gone h = absurd h
     by_ending (LineTooLong n) same gone h = absurd h
     by_ending ScriptTooLarge same gone h = absurd h
@@ -217,7 +271,7 @@ short_begun byte line (inr room) is = elim (eqb_tells byte 10) [
   })
 ]
 
-too_large : {M : Type 0} (gives : Gives M) (gives_up : M → M → Type 0) (script rest : List ℕ) (left : Option (List ℕ)) (old new : M) (taken count byte : ℕ) (line : List ℕ) (first left' : Option (List ℕ)) (before after : Option (List ℕ)) (r : Reaches gives old new taken count line first left' before after)
+too_large : {M : Type 0} (gives : Gives M) (gives_up : GivesUp M) (script rest : List ℕ) (left : Option (List ℕ)) (old new : M) (taken count byte : ℕ) (line : List ℕ) (first left' : Option (List ℕ)) (before after : Option (List ℕ)) (r : Reaches gives old new taken count line first left' before after)
     → taken ≡ script_limit → script ≡ (r.bytes ++ byte ∷ []) ++ rest → (byte ≡ 10) ⊎ (length line ≢ line_limit)
     → Ends gives gives_up script left old new before after ScriptTooLarge
 too_large gives gives_up script rest left old new taken count byte line first left' before after r full parts room =
@@ -240,7 +294,7 @@ too_large gives gives_up script rest left old new taken count byte line first le
     )
 
 -- a byte more than the script may have
-pub past_ends : {M : Type 0} (gives : Gives M) (gives_up : M → M → Type 0) (script : List ℕ) (left left' : Option (List ℕ)) (old new : M) (taken count byte : ℕ) (line : List ℕ) (before after : Option (List ℕ)) (ending : Ending)
+pub past_ends : {M : Type 0} (gives : Gives M) (gives_up : GivesUp M) (script : List ℕ) (left left' : Option (List ℕ)) (old new : M) (taken count byte : ℕ) (line : List ℕ) (before after : Option (List ℕ)) (ending : Ending)
     → Reaches gives old new taken count line (Some script) left before after → taken ≡ script_limit → Consumes left left' (byte ∷ []) → PassesLimit count line byte ending
     → Ends gives gives_up script left' old new before after ending
 past_ends gives gives_up script left left' old new taken count byte line before after ending r full one why =
@@ -269,9 +323,23 @@ past_ends gives gives_up script left left' old new taken count byte line before 
     by_ending WriteFault rest parts w = absurd w
     by_ending NoMemory rest parts w = absurd w
 
--- nothing was written
-pub nothing_ends : {M : Type 0} (gives : Gives M) (gives_up : M → M → Type 0) (script : List ℕ) (left : Option (List ℕ)) (old : M) (written : Option (List ℕ)) → Ends gives gives_up script left old old written written NoMemory
-nothing_ends gives gives_up script left old written = record { number = 0; out = []; mid = old; answered = (refl, refl); left = inl refl; count = 0; written = Appends-nil written }
+-- nothing was taken and nothing was written
+pub nothing_ends : {M : Type 0} (gives : Gives M) (gives_up : GivesUp M) (script : List ℕ) (old : M) (written : Option (List ℕ)) → Ends gives gives_up script (Some script) old old written written NoMemory
+nothing_ends gives gives_up script old written = record {
+  taken = [];
+  number = 0;
+  takes = record { rest = script; parts = refl; left_is = refl; size = omega arith; ended = omega arith; short = All-nil IsShort };
+  out = [];
+  mid = old;
+  answered = (refl, refl);
+  front = [];
+  stops = inr (record { memory = refl; none = refl; same = refl });
+  written = Appends-nil written;
+}
+
+pub nothing_told : {M : Type 0} (gives : Gives M) (gives_up : GivesUp M) (first : Option (List ℕ)) (old : M) (written : Option (List ℕ)) → IfSome first (λ script. Ends gives gives_up script first old old written written NoMemory)
+nothing_told gives gives_up None old written = tt
+nothing_told gives gives_up (Some script) old written = nothing_ends gives gives_up script old written
 
 few_lines : (lines : List (List ℕ)) → length lines ≤ length (unlines lines)
 few_lines [] = omega arith

@@ -1,9 +1,11 @@
 -- How far a reading of a script has come, in the words of its own steps.
-use Rattle.std.specs.Prelude.{◌≡◌, ◌≢◌, ◌⊎◌, ℕ, ◌+◌, ◌<◌, ◌≤◌, List, [], ◌∷◌, ◌++◌, length, take, Option}
+use Rattle.std.specs.Prelude.{◌≡◌, ◌≢◌, ◌⊎◌, ℕ, ◌+◌, ◌<◌, ◌≤◌, List, [], ◌∷◌, ◌++◌, length, Option}
 use Rattle.std.specs.List.{flat_map, AllByRecursion}
-use Rattle.std.specs.Io.KnownBytes.{Appends, Keeps, Consumes}
+use Rattle.std.specs.Io.KnownBytes.{Appends, Consumes}
 use Rattle.script_loop.specs.Limits.{line_limit}
-use Rattle.script_loop.specs.Outputs.{Gives, LineOutput, Outputs}
+use Rattle.script_loop.specs.Outputs.{Gives, Outputs}
+use Rattle.script_loop.specs.InPart.{GivesUp, StopsAnswer, IsUnbegun}
+use Rattle.script_loop.specs.declared.ending.Ending.{Ending}
 
 abbrev pub IsPlain : List ℕ → Type 0
 IsPlain bytes = AllByRecursion (λ byte. byte ≢ 10) bytes
@@ -45,24 +47,39 @@ pub record MeetsLong {M : Type 0} (gives : Gives M) (old : M) (number : ℕ) (te
   pub answered : Outputs gives old (number + 1) lines out new
   pub written : Appends before after out
 
--- One line's answer was written in part, or the machine gave up and nothing was written.
-abbrev pub StopsInLine : {M : Type 0} → Gives M → (M → M → Type 0) → M → ℕ → List ℕ → M → Option (List ℕ) → Option (List ℕ) → Type 0
-StopsInLine gives gives_up old number line new before after =
-    ((out : List ℕ) × (count : ℕ) × LineOutput gives old number line out new × Appends before after (take count out))
-    ⊎ (gives_up old new × Keeps before after)
-
--- A front of the answers of some first lines of text was written.
-pub record StopsAmong {M : Type 0} (gives : Gives M) (gives_up : M → M → Type 0) (old : M) (number : ℕ) (text : List ℕ) (new : M) (before after : Option (List ℕ)) : Type 0 where
-  pub lines : List (List ℕ)
+-- some of the bytes were written, and not all
+pub record WritesSome (bytes : List ℕ) (before after : Option (List ℕ)) : Type 0 where
+  pub front : List ℕ
   pub rest : List ℕ
-  pub whole : text ≡ unlines lines ++ rest
+  pub parts : bytes ≡ front ++ rest
+  pub some : 0 < length rest
+  pub written : Appends before after front
+
+-- A line's answer stopped when a front of it was written.
+pub record StopsInLine {M : Type 0} (gives : Gives M) (gives_up : GivesUp M) (old : M) (number : ℕ) (line : List ℕ) (new : M) (before after : Option (List ℕ)) (ending : Ending) : Type 0 where
+  pub front : List ℕ
+  pub stops : StopsAnswer gives gives_up old number line front new ending
+  pub written : Appends before after front
+
+-- a newline comes first
+abbrev pub BeginsEnded : List ℕ → Type 0
+BeginsEnded rest = (after : List ℕ) × (rest ≡ 10 ∷ after)
+
+-- The first lines of text were answered, and the next one's answer stopped when a front of it was written, or memory was refused before it began.
+pub record StopsAmong {M : Type 0} (gives : Gives M) (gives_up : GivesUp M) (old : M) (number : ℕ) (text : List ℕ) (new : M) (before after : Option (List ℕ)) (ending : Ending) : Type 0 where
+  pub lines : List (List ℕ)
+  pub line : List ℕ
+  pub rest : List ℕ
+  pub whole : text ≡ unlines lines ++ (line ++ rest)
   pub each : AllByRecursion IsLine lines
+  pub is : IsLine line
+  pub ended : (rest ≡ []) ⊎ BeginsEnded rest
   pub out : List ℕ
   pub mid : M
   pub answered : Outputs gives old (number + 1) lines out mid
-  pub left : (mid ≡ new) ⊎ gives_up mid new
-  pub count : ℕ
-  pub written : Appends before after (take count out)
+  pub front : List ℕ
+  pub stops : (BeginsEnded rest × StopsAnswer gives gives_up mid (number + length lines + 1) line front new ending) ⊎ IsUnbegun mid front new ending
+  pub written : Appends before after (out ++ front)
 
 -- How far a run has come: the bytes so far were taken from the source, and fed.
 pub record Reaches {M : Type 0} (gives : Gives M) (old new : M) (taken count : ℕ) (line : List ℕ) (first left : Option (List ℕ)) (before after : Option (List ℕ)) : Type 0 where

@@ -1,8 +1,8 @@
-ghost use Rattle.std.specs.Prelude.{List, ℕ, ◌≤◌, length, take, OnOk, OnErr, IfErr};
+ghost use Rattle.std.specs.Prelude.{List, ℕ, OnOk, OnErr, IfErr};
 ghost use Rattle.std.specs.Io.KnownBytes.{Appends};
 ghost use Rattle.n32_outside.specs.Causes.{HasOutCause};
 ghost use Rattle.script_loop.specs.Outputs.{LineOutput};
-ghost use Rattle.script_loop.specs.Progress.{StopsInLine};
+ghost use Rattle.script_loop.specs.Progress.{WritesSome, StopsInLine};
 ghost use Rattle.script_loop.specs.Stops.{HasWriteCause, IsWriting};
 
 use crate::lines::{NEWLINE, is_blank_line};
@@ -10,10 +10,10 @@ use crate::{Ending, Machine};
 use n32_outside::{OutFault, Sink};
 use std::alloc::Global;
 
-/// Writes all the bytes, however few the sink takes at a time. After an `Err` a front of them was written.
+/// Writes all the bytes, however few the sink takes at a time. After an `Err` some of them were written, and not all.
 pub fn write_all<O: Sink>(sink: &mut O, bytes: &[u8]) -> Result<(), OutFault>
     ensures ok { OnOk result (Appends (O.written sink.old) (O.written sink.new) bytes.now) }
-    ensures front { (count : ℕ) × (count ≤ length bytes.now) × Appends (O.written sink.old) (O.written sink.new) (take count bytes.now) }
+    ensures err { OnErr result (WritesSome bytes.now (O.written sink.old) (O.written sink.new)) }
     ensures cause { HasOutCause (O.faults sink.old) (O.faults sink.new) result }
 {
     let mut count = 0;
@@ -34,7 +34,7 @@ pub fn answer_line<M: Machine, O: Sink>(
     requires { M.ready machine.old }
     ensures ok { OnOk result ((out : List ℕ)
         × LineOutput M.gives machine.old number line.now out machine.new × Appends (O.written sink.old) (O.written sink.new) out) }
-    ensures err { OnErr result (StopsInLine M.gives M.gives_up machine.old number line.now machine.new (O.written sink.old) (O.written sink.new)) }
+    ensures err { IfErr result (StopsInLine M.gives M.gives_up machine.old number line.now machine.new (O.written sink.old) (O.written sink.new)) }
     ensures which { IfErr result IsWriting }
     ensures ready { OnOk result (M.ready machine.new) }
     ensures later { M.later machine.old machine.new }

@@ -1,4 +1,4 @@
-ghost use Rattle.std.specs.Prelude.{◌≡◌, ℕ, ◌+◌, ◌-◌, ◌^◌, ◌<◌, ◌≤◌, List, [], ◌++◌, length, OnOk, OnErr, IfErr};
+ghost use Rattle.std.specs.Prelude.{◌≡◌, ℕ, ◌+◌, ◌-◌, ◌^◌, ◌<◌, ◌≤◌, List, [], ◌++◌, length, OnOk, IfErr};
 ghost use Rattle.std.specs.Io.KnownBytes.{Appends};
 ghost use Rattle.n32_outside.specs.Causes.{Rose};
 ghost use Rattle.script_loop.specs.Limits.{line_limit};
@@ -65,7 +65,7 @@ impl LineBuffer {
             × Appends (O.written sink.old) (O.written sink.new) out) }
         ensures line { OnOk result (self.new.line.items ≡ []) }
         ensures number { OnOk result (self.new.number ≡ self.old.number + 1) }
-        ensures err { OnErr result (StopsInLine M.gives M.gives_up machine.old (self.old.number + 1) self.old.line.items machine.new (O.written sink.old) (O.written sink.new)) }
+        ensures err { IfErr result (StopsInLine M.gives M.gives_up machine.old (self.old.number + 1) self.old.line.items machine.new (O.written sink.old) (O.written sink.new)) }
         ensures which { IfErr result IsWriting }
         ensures ready { OnOk result (M.ready machine.new) }
         ensures later { M.later machine.old machine.new }

@@ -11,8 +11,8 @@ pub trait Machine {
     /// From the first machine, the line of that number may get that answer, which leaves the last machine.
     ghost gives: { Self → ℕ → List ℕ → List ℕ → Self → Type 0 };
 
-    /// What an answer that found no memory may leave of the first machine.
-    ghost gives_up: { Self → Self → Type 0 };
+    /// From the first machine, the answer to the line of that number may find no memory, which leaves the last machine.
+    ghost gives_up: { Self → ℕ → List ℕ → Self → Type 0 };
 
     /// What every call keeps, such as that a count hasn't fallen.
     ghost later: { Self → Self → Type 0 };
@@ -22,7 +22,7 @@ pub trait Machine {
         requires { ready self.old }
         ensures ok { IfOk result (λ text. gives self.old number line.now text self.new) }
         ensures ready { OnOk result (ready self.new) }
-        ensures err { OnErr result (gives_up self.old self.new) }
+        ensures err { OnErr result (gives_up self.old number line.now self.new) }
         ensures later { later self.old self.new };
 
     /// Nothing was called.

@@ -16,7 +16,7 @@ impl Machine for Lengths {
 
     ghost gives = { λ _ _ _ _ _. Unit {0} };
 
-    ghost gives_up = { λ _ _. Unit {0} };
+    ghost gives_up = { λ _ _ _ _. Unit {0} };
 
     ghost later = { λ old new. new ≡ old };
 

@@ -12,6 +12,3 @@ mod splitting;
 
 pub use fault::SendFault;
 pub use sending::protect;
-
-#[cfg(test)]
-mod tests;

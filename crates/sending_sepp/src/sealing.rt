@@ -9,8 +9,11 @@ ghost use Rattle.http_message.specs.Reading.{message_view};
 ghost use Rattle.context_records.specs.View.{context_view, key_set_view, suite_view};
 ghost use Rattle.spec_exchange.specs.Calls.{sealed_document, send_key as key_to_send, sent_block_of, split_limit};
 ghost use Rattle.spec_exchange.specs.Chain.{none_of};
-ghost use Rattle.spec_exchange.specs.Jwe.{carrier, content_key, nonce, sealed};
-ghost use Rattle.spec_exchange.specs.Rebuilding.{plaintext};
+ghost use Rattle.spec_exchange.specs.Nonce.{nonce};
+ghost use Rattle.spec_sealing.specs.Suites.{content_key};
+ghost use Rattle.spec_sealing.specs.Jwe.{sealed};
+ghost use Rattle.spec_sealing.specs.Plaintext.{plaintext};
+ghost use Rattle.spec_sealing.specs.Received.{carrier};
 ghost use Rattle.spec_exchange.specs.Refusals as refusals;
 ghost use Rattle.sending_sepp.specs.Outcome.{IsOfChecks};
 ghost use Rattle.sending_sepp.specs.Sending.{Gives};
@@ -19,14 +22,12 @@ use crate::fault::SendFault;
 use crate::metadata::metadata_for;
 use crate::splitting::split_message;
 use context_calls::{send_key, send_nonce};
+use context_records::{Context, KeySet};
 use http_message::{Kind, Message};
 use jwe_flat::{Suite, seal_jwe};
 use n32_values::{Doc, Hex64, NoMemory, doc_text};
-use prins_document::wire_doc;
+use prins_document::{values_text, wire_doc};
 use reformat_blocks::Split;
-use sealed_values::values_text;
-use context_records::{Context, KeySet};
-use spec_exchange::readings::jwes_are_computed;
 use std::alloc::Global;
 
 // The document that carries a block and its values, sealed as the request of this sequence number.
@@ -34,7 +35,6 @@ fn seal(alloc: Global, suite: Suite, keys: &KeySet, seq: u32, parts: Split) -> R
     requires { IsTrue (keys_fit (suite_view suite) (key_set_view keys.now)) }
     ensures { IfOk result (λ d. d ≡ carrier (sealed (content_key (suite_view suite) (key_to_send of_request (key_set_view keys.now)).key) (nonce (key_to_send of_request (key_set_view keys.now)) seq) (compact_text parts.block) (plaintext parts.values))) }
 {
-    jwes_are_computed();
     let Split { block, values } = parts;
     let clear = doc_text(alloc, block.doc().node())?;
     let plain = values_text(alloc, values)?;

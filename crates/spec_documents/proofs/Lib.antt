@@ -17,3 +17,8 @@ pub mod SameLemmas
 pub mod IdLemmas
 pub mod PlacesApart
 pub mod WithoutHoles
+pub mod Below
+pub mod Texts
+pub mod RoundTrip
+pub mod Decoding
+pub mod Chains

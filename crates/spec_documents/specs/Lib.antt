@@ -11,3 +11,10 @@ pub mod HolePlaces
 pub mod Examples
 pub mod Ids
 pub mod Gives
+pub mod Chain
+pub mod Whole
+pub mod Document
+pub mod Data
+pub mod Tokens
+pub mod Base64url
+pub mod Reading

@@ -3,6 +3,7 @@
 
 pub mod ids;
 pub mod places;
+pub mod readings;
 pub mod rows;
 
 ghost use Rattle.std.specs.Prelude.{◌≡◌, false, ℕ, List, Ok, Some, ◌≤◌};

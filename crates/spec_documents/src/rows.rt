@@ -1,9 +1,10 @@
 //! Worked examples, by computation.
 
-ghost use Rattle.std.specs.Prelude.{◌≡◌, List, [], ◌∷◌, Ok, Err, pos, codes};
+ghost use Rattle.std.specs.Prelude.{◌≡◌, List, [], ◌∷◌, Some, None, Ok, Err, pos, codes};
 ghost use Rattle.spec_documents.specs.Tree.{whole, items, item, no_items};
 ghost use Rattle.spec_documents.specs.Place.{no_place, bad_index, into_itself, at, read_pointer, pointer_text};
 ghost use Rattle.spec_documents.specs.Patch.{add, remove, move, copy, test, patched};
+ghost use Rattle.spec_documents.specs.Base64url.{bytes_of};
 ghost use Rattle.spec_documents.specs.Examples.{number, list, map_of, one_two};
 
 /// Pointer texts are read and written.
@@ -30,4 +31,14 @@ pub fn patch_rows()
     ensures tested { patched one_two (test (codes "a" ∷ []) (list (number 1 ∷ number 2 ∷ []))) ≡ Ok one_two }
     ensures root { patched one_two (remove []) ≡ Err no_place }
     ensures same { patched one_two (move [] []) ≡ Err no_place }
+{}
+
+/// A base64url text has no padding and no bits left over.
+pub fn text_rows()
+    ensures one { bytes_of (codes "AA") ≡ Some (0 ∷ []) }
+    ensures left_over { bytes_of (codes "AB") ≡ None }
+    ensures empty { bytes_of [] ≡ Some [] }
+    ensures padded { bytes_of (codes "AA==") ≡ None }
+    ensures single { bytes_of (codes "A") ≡ None }
+    ensures last { bytes_of (codes "_-8") ≡ Some (255 ∷ 239 ∷ []) }
 {}

@@ -10,7 +10,7 @@ use Rattle.spec_messages.specs.Message.{Message, Kind, wanted}
 use Rattle.spec_records.specs.Records.{Record, Context, is_of, own, is_closed, opened_context, first_of, record_limit, open_context, keys, keys_behind, mapping_delivered, answered, next_seq, delivered_at, was_delivered, is_delivery}
 use Rattle.spec_records.proofs.RecordLemmas.{own-append, own-append_other, delivered_at-is_some}
 use Rattle.spec_exchange.specs.Chain.{◌>>=◌, unless, none_of, or_refused}
-use Rattle.spec_exchange.specs.Received.{Received, received}
+use Rattle.spec_sealing.specs.Received.{Received, received}
 use Rattle.spec_exchange.specs.Refusals.{Refusal, many_records, NoContext, NoReceiveKeys, Replay, Form, ContextNotFound, NoKeys, NoRequest, Answered, SeqSpent, Beyond}
 use Rattle.spec_exchange.specs.FirstFailed.{Delivery, first_failed, first_failed_of}
 use Rattle.spec_exchange.specs.Outside.{Choice, Reading, Read, ReadFails, BadRecord, Putting, Kept, Lost, KeptUntold, Outcome, puts, behind_reading, or_refusal, with_put}

@@ -1,9 +1,5 @@
 pub mod ChainLemmas
-pub mod DecodingLemmas
-pub mod FormLemmas
 pub mod HiddenLemmas
 pub mod IsolationLemmas
-pub mod JweLemmas
-pub mod ReceivedLemmas
 pub mod RunLemmas
 pub mod UntouchedLemmas

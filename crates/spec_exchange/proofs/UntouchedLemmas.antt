@@ -17,31 +17,30 @@ use Rattle.spec_messages.specs.Fault.{block_fault, member_fault, is_meta_node, m
 use Rattle.spec_messages.specs.Rebuilt.{FillFault, fill_fault}
 use Rattle.spec_messages.proofs.BlockFaults.{first_none, when_none}
 use Rattle.spec_records.specs.Records.{OneKey, KeySet, Context, Record, record_limit, open_context, keys, seq_at, seq_with}
-use Rattle.n32_values.specs.Base64url.{base64url}
-use Rattle.n32_values.specs.Document.{IsDocument}
-use Rattle.n32_values.proofs.RoundTrip.{reads_back}
+use Rattle.spec_documents.specs.Base64url.{base64url}
+use Rattle.spec_documents.specs.Document.{IsDocument}
+use Rattle.spec_documents.proofs.RoundTrip.{reads_back}
 use Rattle.json.proofs.Printed.Utf8.{IsUtf8-are_ascii}
 use Rattle.spec_exchange.specs.Chain.{or_refused, none_of, unless}
-use Rattle.spec_exchange.specs.Decoding.{document_of}
-use Rattle.spec_exchange.specs.Received.{block_in, if_has_meta, metadata_of, kind_in, received}
-use Rattle.spec_exchange.specs.Rebuilding.{no_values, no_block, no_fill, values_in, values_of, plaintext, of_block, read_block, unless_fault, filled_with, mapping_of_head, in_clear}
+use Rattle.spec_documents.specs.Reading.{document_of}
+use Rattle.spec_sealing.specs.Received.{block_in, if_has_meta, metadata_of, kind_in, received, carrier}
+use Rattle.spec_sealing.specs.Plaintext.{values_of, plaintext}
+use Rattle.spec_exchange.specs.Rebuilding.{no_values, no_block, no_fill, of_block, read_block, unless_fault, filled_with, mapping_of_head, in_clear}
 use Rattle.spec_exchange.specs.Calls.{metadata_for, sent_block_of, split_limit, sealed_document, Sealed, Asks, protected}
 use Rattle.spec_exchange.specs.Refusals.{Limit, many_headers, many_items, many_values, long_block, many_records, Refusal, ContextNotFound, NoKeys, Form, NoContext, NoReceiveKeys, Cipher, Integrity, Replay, Reconstruction, InClear, Beyond}
 use Rattle.spec_exchange.specs.FirstFailed.{receive_key, first_failed_of, first_failed}
-use Rattle.spec_exchange.specs.Jwe.{content_key, misfit, opened, nonce, sealed, carrier}
+use Rattle.spec_sealing.specs.Suites.{ContentKey, content_key}
+use Rattle.spec_sealing.specs.Jwe.{Jwe, misfit, opened, sealed}
+use Rattle.spec_exchange.specs.Nonce.{nonce}
 use Rattle.spec_exchange.specs.Untouched.{mapping_under, block_under, values_under, IsSendable, HasNames, AreValues, IsReady, delivery_of}
-use Rattle.aes_block.proofs.Below as below
-use Rattle.aes_block.proofs.Below.{same_below}
-use Rattle.jwe_flat.specs.Form.{HasParts, HasTexts, jwe_tree}
-use Rattle.jwe_flat.specs.Sealing.{JweOf, SealedJweOpens}
-use Rattle.jwe_flat.specs.declared.jwe.FlatJwe.{FlatJwe}
-use Rattle.jwe_flat.specs.declared.key.ContentKey.{ContentKey}
-use Rattle.jwe_flat.proofs.Documents.{written_is_read, sealed_has_texts}
-use Rattle.spec_exchange.proofs.DecodingLemmas.{bytes_of-base64url, document_of-reads}
-use Rattle.spec_exchange.proofs.JweLemmas.{misfit-is, opened-opens}
+use Rattle.spec_documents.proofs.Below as below
+use Rattle.spec_documents.proofs.Below.{same_below}
+use Rattle.spec_sealing.specs.Forms.{HasParts, HasTexts}
+use Rattle.spec_documents.proofs.Decoding.{bytes_of-base64url, document_of-reads}
+use Rattle.spec_sealing.proofs.Opening.{sealed-allowed, sealed-opens, sealed-texts}
 use Rattle.spec_exchange.proofs.ChainLemmas.{bind_then, none_ok, wanted_ok, ok_same}
-use Rattle.spec_exchange.proofs.FormLemmas.{bind_at}
-use Rattle.spec_exchange.proofs.ReceivedLemmas.{inside-reads, parts-received}
+use Rattle.spec_documents.proofs.Chains.{bind_at}
+use Rattle.spec_sealing.proofs.Written.{carried-received, values-read}
 use Rattle.spec_exchange.proofs.HiddenLemmas.{all-hidden}
 
 -- ---- ids in lower case
@@ -128,14 +127,6 @@ fill-back vs c m f none some = tested (fill_fault vs c) refl
     tested None e = some-ok (fill_whole vs c) m (sym (some e) ∙ f)
     tested (Some why) e = none-some m (sym (none why e) ∙ f)
 
--- ---- the plaintext
-
-values-back : (vs : List Tree) → IsDocument (items (trees vs)) → depth (items (trees vs)) ≤ 126 → values_of (plaintext vs) ≡ Some vs
-values-back vs d shallow =
-    let t : Tree = members (object ((codes "dataToEncrypt", items (trees vs)) ∷ [])) in
-    let reads = reads_back t ((tt, tt), (IsUtf8-are_ascii (codes "dataToEncrypt") refl, d, tt)) (omega arith) in
-    ap (option_and_then values_in) (document_of-reads (compact_text t) t reads) ∙ ap (λ z. Some z) (list-trees vs)
-
 -- ---- the block, read again
 
 -- the laws on blocks and fills that are needed of one message
@@ -177,15 +168,15 @@ request-kind pol k m meta e =
 -- ---- the document, read again
 
 -- what is received of a document that carries this JWE
-form-back : (w : FlatJwe) (j : Tree) (context message : ℕ) → HasParts w → HasTexts w → block_in w.aad ≡ Some j → hex_after 0 (metadata_of j).context ≡ context → hex_after 0 (metadata_of j).message ≡ message → kind_in j ≡ of_request
+form-back : (w : Jwe) (j : Tree) (context message : ℕ) → HasParts w → HasTexts w → block_in w.aad ≡ Some j → hex_after 0 (metadata_of j).context ≡ context → hex_after 0 (metadata_of j).message ≡ message → kind_in j ≡ of_request
     → received (carrier w) ≡ Ok (record { jwe = w; block = j; context = context; message = message; authorized = (metadata_of j).ipx; kind = of_request; entries = [] })
 form-back w j context message parts texts block id seq kind =
-    parts-received (carrier w) _ w j [] refl (inside-reads _ (jwe_tree w) w refl (written_is_read w parts texts)) block refl
+    carried-received w j parts texts block
     ∙ (λ i. Ok (record { jwe = w; block = j; context = id i; message = seq i; authorized = (metadata_of j).ipx; kind = kind i; entries = [] }))
 
 -- ---- what is checked of it
 
-checked-back : (x : Context) (key : OneKey) (seq : ℕ) (m : Message) (node : List ℕ) (records : List Record) (w : FlatJwe) (ipx : List ℕ)
+checked-back : (x : Context) (key : OneKey) (seq : ℕ) (m : Message) (node : List ℕ) (records : List Record) (w : Jwe) (ipx : List ℕ)
     → misfit (content_key x.suite key.key) w ≡ None → opened (content_key x.suite key.key) w ≡ Some (plaintext (values_under x m)) → values_of (plaintext (values_under x m)) ≡ Some (values_under x m)
     → Stands x.policy (mapping_under x m) m (metadata_for x seq) → is_ordered_body m.body ≡ true → IsReady x key seq node records
     → first_failed_of records node (record { jwe = w; block = block_under x seq m; context = x.peer; message = seq; authorized = ipx; kind = of_request; entries = [] }) ≡ Ok (delivery_of x seq m node)
@@ -207,24 +198,22 @@ checked-back x key seq m node records w ipx fits opens values stands ordered r =
 -- ---- all of it
 
 pub untouched : (x : Context) (key : OneKey) (seq : ℕ) (m : Message) (node : List ℕ) (records : List Record)
-    → SealedJweOpens → Stands x.policy (mapping_under x m) m (metadata_for x seq) → depth (block_under x seq m) ≤ 127
+    → Stands x.policy (mapping_under x m) m (metadata_for x seq) → depth (block_under x seq m) ≤ 127
     → IsSendable x seq m → HasNames x → seq < 2 ^ 64 → AreValues x key seq m → IsReady x key seq node records
     → first_failed records node (sealed_document x key seq (sent_block_of x (mapping_under x m) seq m) (values_under x m)) ≡ Ok (delivery_of x seq m node)
-untouched x key seq m node records laws stands shallow sendable names fits are ready =
+untouched x key seq m node records stands shallow sendable names fits are ready =
     let ck : ContentKey = content_key x.suite key.key in
     let j : Tree = block_under x seq m in
     let plain : List ℕ = plaintext (values_under x m) in
-    let w : FlatJwe = sealed ck (nonce key seq) (compact_text j) plain in
-    let made : JweOf ck (nonce key seq) (compact_text j) plain w = record { protected = refl; aad = refl; iv = refl; sealed = record { text = refl; tag = refl } } in
-    let opening = laws ck (nonce key seq) (compact_text j) plain w made in
+    let w : Jwe = sealed ck (nonce key seq) (compact_text j) plain in
     let meta : metadata_of j ≡ (sent_block_of x (mapping_under x m) seq m).metadata = meta-is (sent_block_of x (mapping_under x m) seq m) in
     bind_at _ _ _ (ap (or_refused (λ z. Form z)) (form-back w j x.peer seq are.parts
-    (sealed_has_texts ck (nonce key seq) (compact_text j) plain w are.block_bytes made)
+    (sealed-texts ck (nonce key seq) (compact_text j) plain are.block_bytes)
     (aad-back j (length (values_under x m)) stands.fault are.block shallow are.block_bytes)
     (ap (λ (z : Meta). hex_after 0 z.context) meta ∙ id_back x.peer names.peer)
     (ap (λ (z : Meta). hex_after 0 z.message) meta ∙ id_back seq fits)
     (request-kind x.policy (mapping_under x m) m (metadata_for x seq) sendable.request)))
-    ∙ checked-back x key seq m node records w (metadata_of j).ipx (misfit-is ck w None opening.0) (opened-opens ck w plain opening.1) (values-back (values_under x m) are.plain are.plain_depth) stands sendable.ordered ready
+    ∙ checked-back x key seq m node records w (metadata_of j).ipx (sealed-allowed ck (nonce key seq) (compact_text j) plain) (sealed-opens ck (nonce key seq) (compact_text j) plain) (values-read (values_under x m) are.plain are.plain_depth) stands sendable.ordered ready
 
 -- ---- what was sent
 

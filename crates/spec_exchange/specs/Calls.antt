@@ -10,8 +10,12 @@ use Rattle.spec_messages.specs.Block.{Meta, Block, block_of, block_tree, at_most
 use Rattle.spec_messages.specs.Fault.{first_of, when}
 use Rattle.spec_records.specs.Records.{OneKey, KeySet, Context, Record, Sent, Delivered, record_limit, open_context, keys, mapping_delivered, answered, next_seq}
 use Rattle.spec_exchange.specs.Chain.{◌>>=◌, unless, none_of}
-use Rattle.spec_exchange.specs.Jwe.{content_key, nonce, sealed, carrier}
-use Rattle.spec_exchange.specs.Rebuilding.{plaintext, mapping_of_head}
+use Rattle.spec_sealing.specs.Suites.{content_key}
+use Rattle.spec_sealing.specs.Jwe.{sealed}
+use Rattle.spec_sealing.specs.Plaintext.{plaintext}
+use Rattle.spec_sealing.specs.Received.{carrier}
+use Rattle.spec_exchange.specs.Nonce.{nonce}
+use Rattle.spec_exchange.specs.Rebuilding.{mapping_of_head}
 use Rattle.spec_exchange.specs.Refusals.{Limit, many_headers, many_items, many_values, long_block, many_records, Refusal, Beyond, ContextNotFound, NoKeys, NoRequest, Answered, SeqSpent}
 use Rattle.spec_exchange.specs.FirstFailed.{Delivery, first_failed}
 use Rattle.spec_exchange.specs.Outside.{Choice, Outcome, puts, behind_reading, or_refusal}

@@ -3,10 +3,12 @@ use Rattle.std.specs.Prelude.{ℕ, List, length, Bool, false, true, ◌||◌, na
 use Rattle.spec_documents.specs.Tree.{Tree}
 use Rattle.spec_messages.specs.Message.{Message, Kind, of_request, of_response, wanted}
 use Rattle.spec_records.specs.Records.{OneKey, KeySet, Record, record_limit, open_context, keys, delivered_at}
-use Rattle.spec_exchange.specs.Chain.{◌>>=◌, unless, none_of, or_refused}
-use Rattle.spec_exchange.specs.Jwe.{content_key, misfit, opened}
-use Rattle.spec_exchange.specs.Received.{Received, received}
-use Rattle.spec_exchange.specs.Rebuilding.{no_values, no_block, no_fill, values_of, read_block, filled_with, mapping_of_head, in_clear}
+use Rattle.spec_documents.specs.Chain.{◌>>=◌, unless, none_of, or_refused}
+use Rattle.spec_sealing.specs.Suites.{content_key}
+use Rattle.spec_sealing.specs.Jwe.{misfit, opened}
+use Rattle.spec_sealing.specs.Plaintext.{values_of}
+use Rattle.spec_sealing.specs.Received.{Received, received}
+use Rattle.spec_exchange.specs.Rebuilding.{no_values, no_block, no_fill, read_block, filled_with, mapping_of_head, in_clear}
 use Rattle.spec_exchange.specs.Refusals.{Refusal, many_records, Form, NotBuilt, NoContext, NoReceiveKeys, Cipher, Integrity, Replay, Reconstruction, InClear, Beyond}
 
 -- what is delivered, with what its record needs

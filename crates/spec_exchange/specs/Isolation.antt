@@ -1,7 +1,7 @@
 -- What a run tells one context: the replies to its own calls (this project's own).
 use Rattle.std.specs.Prelude.{ℕ, Bool, false, ◌&&◌, ◌==◌, List, [], ◌∷◌, Option, Some, None, Result, Ok, Err, if◌then◌else◌, bytes_eq, filter}
 use Rattle.spec_records.specs.Records.{Record, is_of}
-use Rattle.spec_exchange.specs.Received.{Received, received}
+use Rattle.spec_sealing.specs.Received.{Received, received}
 use Rattle.spec_exchange.specs.Refusals.{Refusal, Replay}
 use Rattle.spec_exchange.specs.Outside.{Choice}
 use Rattle.spec_exchange.specs.Runs.{Call, Deliver, Send, Puts, Reply, Refused, reply_of, after}

@@ -1,7 +1,5 @@
-pub mod Chain
-pub mod Decoding
-pub mod Jwe
-pub mod Received
+pub use Rattle.spec_documents.specs.Chain
+pub mod Nonce
 pub mod Rebuilding
 pub mod Refusals
 pub mod FirstFailed

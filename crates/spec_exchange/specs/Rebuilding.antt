@@ -1,9 +1,8 @@
--- What is made of an opened document: its values, its message, and what of this should have been sealed.
-use Rattle.std.specs.Prelude.{ℕ, List, [], ◌∷◌, Bool, true, false, not, ◌||◌, Option, Some, None, option_map, option_and_then, Result, Ok, Err, slice_get, if◌then◌else◌, codes}
-use Rattle.spec_documents.specs.Tree.{Tree, null, truth, whole, words, items, members, get_member, tree_list, trees, object}
+-- What is made of an opened document: its message, and what of this should have been sealed.
+use Rattle.std.specs.Prelude.{ℕ, List, [], ◌∷◌, Bool, true, false, not, ◌||◌, Option, Some, None, option_map, option_and_then, Result, Ok, Err, slice_get, if◌then◌else◌}
+use Rattle.spec_documents.specs.Tree.{Tree}
 use Rattle.spec_documents.specs.Place.{Pointer, at, if_ok}
 use Rattle.spec_documents.specs.Hole.{goes_into, is_marked}
-use Rattle.spec_documents.specs.Compact.{compact_text}
 use Rattle.spec_messages.specs.Message.{Part, clear, hole_part, Head, request, response, Message}
 use Rattle.spec_messages.specs.Policy.{Policy, Spot, segment_spot, pair_spot, header_spot, body_spot, Address, mapping_of, secret_places, spot_address, query_pairs}
 use Rattle.spec_messages.specs.Changed.{segments_in}
@@ -11,34 +10,6 @@ use Rattle.spec_messages.specs.Split.{fill_whole}
 use Rattle.spec_messages.specs.Block.{clear_message}
 use Rattle.spec_messages.specs.Fault.{BlockFault, deep, block_fault}
 use Rattle.spec_messages.specs.Rebuilt.{FillFault, fill_fault}
-use Rattle.spec_exchange.specs.Decoding.{document_of}
-
--- ---- the plaintext (after TS 33.501 clause 13.2.4.3.2)
-
-abbrev pub listed : Option Tree → Option (List Tree)
-listed None = None
-listed (Some null) = None
-listed (Some (truth b)) = None
-listed (Some (whole z)) = None
-listed (Some (words s)) = None
-listed (Some (items ts)) = Some (tree_list ts)
-listed (Some (members ms)) = None
-
--- a bare list, or the list `dataToEncrypt` of an object
-abbrev pub values_in : Tree → Option (List Tree)
-values_in null = None
-values_in (truth b) = None
-values_in (whole z) = None
-values_in (words s) = None
-values_in (items ts) = Some (tree_list ts)
-values_in (members ms) = listed (get_member (codes "dataToEncrypt") ms)
-
-abbrev pub values_of : List ℕ → Option (List Tree)
-values_of plain = option_and_then values_in (document_of plain)
-
--- the plaintext that is written
-abbrev pub plaintext : List Tree → List ℕ
-plaintext vs = compact_text (members (object ((codes "dataToEncrypt", items (trees vs)) ∷ [])))
 
 -- ---- the message
 

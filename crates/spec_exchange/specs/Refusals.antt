@@ -1,7 +1,7 @@
 -- The refusals of sending and receiving, each with its detail (this project's own).
 use Rattle.std.specs.Prelude.{ℕ, List}
 use Rattle.spec_messages.specs.Policy.{Address}
-use Rattle.jwe_flat.specs.declared.opening.CipherWhy.{CipherWhy}
+use Rattle.spec_sealing.specs.Header.{Misfit}
 use Rattle.spec_exchange.specs.Rebuilding.{RebuildWhy}
 
 -- what is too much
@@ -28,7 +28,7 @@ pub data Refusal : Type 0 where
   NotBuilt : Refusal
   NoContext : Refusal
   NoReceiveKeys : Refusal
-  Cipher : (why : CipherWhy) → Refusal
+  Cipher : (why : Misfit) → Refusal
   Integrity : Refusal
   Replay : (number : ℕ) → Refusal
   Reconstruction : (why : RebuildWhy) → Refusal

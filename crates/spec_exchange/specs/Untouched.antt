@@ -8,10 +8,13 @@ use Rattle.spec_messages.specs.Message.{Message, of_request, kind_of, is_whole, 
 use Rattle.spec_messages.specs.Policy.{values}
 use Rattle.spec_messages.specs.Block.{block_tree, is_ordered_body}
 use Rattle.spec_records.specs.Records.{OneKey, KeySet, Context, Record, record_limit, open_context, keys as keys_of, delivered_at}
-use Rattle.n32_values.specs.Document.{IsDocument}
-use Rattle.jwe_flat.specs.Form.{HasParts}
-use Rattle.spec_exchange.specs.Jwe.{content_key, nonce, sealed}
-use Rattle.spec_exchange.specs.Rebuilding.{plaintext, mapping_of_head}
+use Rattle.spec_documents.specs.Document.{IsDocument}
+use Rattle.spec_sealing.specs.Suites.{content_key}
+use Rattle.spec_sealing.specs.Jwe.{sealed}
+use Rattle.spec_sealing.specs.Forms.{HasParts}
+use Rattle.spec_sealing.specs.Plaintext.{plaintext}
+use Rattle.spec_exchange.specs.Nonce.{nonce}
+use Rattle.spec_exchange.specs.Rebuilding.{mapping_of_head}
 use Rattle.spec_exchange.specs.FirstFailed.{Delivery}
 use Rattle.spec_exchange.specs.Calls.{authorized, sent_block_of, split_limit}
 

@@ -1,7 +1,6 @@
 //! What SEPPs send and receive under a context (N32-f), as definitions over records and documents, and laws over them.
 #![tactic(auto)]
 
-pub mod readings;
 pub mod rows;
 pub mod runs;
 pub mod untouched;

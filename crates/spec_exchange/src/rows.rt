@@ -1,45 +1,24 @@
 //! Worked examples, by computation.
 
 ghost use Rattle.std.specs.Prelude.{◌≡◌, [], ◌∷◌, Some, None, Err, codes};
-ghost use Rattle.spec_documents.specs.Tree.{null, words, items, members, trees, object};
+ghost use Rattle.spec_documents.specs.Tree.{words};
 ghost use Rattle.spec_documents.specs.Compact.{compact_text};
 ghost use Rattle.spec_messages.specs.Policy.{path_var, body_at};
 ghost use Rattle.spec_messages.specs.Split.{cleared};
-ghost use Rattle.spec_messages.specs.Rows.{block_three, message_three, policy_one};
-ghost use Rattle.n32_values.specs.Base64url.{base64url};
-ghost use Rattle.jwe_flat.specs.Header.{header_text};
-ghost use Rattle.jwe_flat.specs.declared.key.Suite.TheVariants.{A128Gcm};
-ghost use Rattle.spec_exchange.specs.Decoding.{bytes_of};
-ghost use Rattle.spec_exchange.specs.Rebuilding.{plaintext, in_clear};
-ghost use Rattle.spec_exchange.specs.Jwe.{nonce};
+ghost use Rattle.spec_messages.specs.Rows.{message_three, policy_one};
+ghost use Rattle.spec_documents.specs.Base64url.{base64url};
+ghost use Rattle.spec_exchange.specs.Rebuilding.{in_clear};
+ghost use Rattle.spec_exchange.specs.Nonce.{nonce};
 ghost use Rattle.spec_exchange.specs.Untouched.{block_under, values_under};
-ghost use Rattle.spec_exchange.specs.Received.{entries_in, if_has_meta, received};
 ghost use Rattle.spec_exchange.specs.Refusals.{ContextNotFound, NoKeys, SeqSpent, NoRequest, Answered, Form};
 ghost use Rattle.spec_exchange.specs.FirstFailed.{first_failed};
 ghost use Rattle.spec_exchange.specs.Calls.{Asks, Replies, protected};
 ghost use Rattle.spec_exchange.specs.Rows.{slices_policy, slices_request, one_key, context_a, opened_both, after_request, after_reply};
 
-/// A base64url text has no padding and no bits left over.
-pub fn text_rows()
-    ensures one { bytes_of (codes "AA") ≡ Some (0 ∷ []) }
-    ensures left_over { bytes_of (codes "AB") ≡ None }
-    ensures empty { bytes_of [] ≡ Some [] }
-    ensures padded { bytes_of (codes "AA==") ≡ None }
-    ensures single { bytes_of (codes "A") ≡ None }
-    ensures last { bytes_of (codes "_-8") ≡ Some (255 ∷ 239 ∷ []) }
-{}
-
-/// What is sealed is an object with the list of the values.
-pub fn plaintext_rows()
-    ensures some { plaintext (words (codes "imsi-001010000000001") ∷ []) ≡ codes "{\"dataToEncrypt\":[\"imsi-001010000000001\"]}" }
-    ensures none { plaintext [] ≡ codes "{\"dataToEncrypt\":[]}" }
-{}
-
 /// The nonce is the salt and the number, and the block says what it is and what is hidden.
 pub fn sealing_rows()
     ensures first { base64url (nonce one_key 0) ≡ codes "AAECAwQFBgcAAAAA" }
     ensures last { base64url (nonce one_key 4294967295) ≡ codes "AAECAwQFBgf_____" }
-    ensures header { header_text A128Gcm ≡ codes "eyJhbGciOiJkaXIiLCJlbmMiOiJBMTI4R0NNIn0" }
     ensures block { compact_text (block_under context_a 0 slices_request) ≡ codes "{\"headers\":[{\"header\":\"accept\",\"value\":\"application/json\"}],\"metaData\":{\"authorizedIpxId\":\"ipx-a\",\"messageId\":\"0000000000000000\",\"n32fContextId\":\"00000000000000b1\"},\"requestLine\":{\"authority\":\"udm.example\",\"method\":\"GET\",\"path\":\"/nudm-sdm/v2/{encBlockIndex=0}/nssai\",\"protocolVersion\":\"HTTP/2\",\"scheme\":\"https\"}}" }
     ensures values { values_under context_a slices_request ≡ words (codes "imsi-001010000000001") ∷ [] }
 {}
@@ -51,18 +30,8 @@ pub fn clear_rows()
     ensures hidden { in_clear policy_one (Some 0) (cleared policy_one (Some 0) message_three) message_three ≡ None }
 {}
 
-/// The first member that has not its form is named.
+/// The first member that has not its form is told.
 pub fn form_rows()
-    ensures document { received (words []) ≡ Err (codes "document") }
-    ensures absent { received (members (object [])) ≡ Err (codes "reformattedData") }
-    ensures text { received (members (object ((codes "reformattedData", words []) ∷ []))) ≡ Err (codes "reformattedData") }
-    ensures jwe { received (members (object ((codes "reformattedData", members (object [])) ∷ (codes "modificationsBlock", words []) ∷ []))) ≡ Err (codes "protected") }
-    ensures three { entries_in (Some (items (trees (null ∷ null ∷ null ∷ [])))) ≡ None }
-    ensures two { entries_in (Some (items (trees (null ∷ null ∷ [])))) ≡ Some (null ∷ null ∷ []) }
-    ensures no_list { entries_in (Some (words [])) ≡ None }
-    ensures null_list { entries_in (Some null) ≡ Some [] }
-    ensures metadata { if_has_meta block_three ≡ Some block_three }
-    ensures no_metadata { if_has_meta (members (object [])) ≡ None }
     ensures told { first_failed [] (codes "B") (words []) ≡ Err (Form (codes "document")) }
 {}
 

@@ -11,7 +11,6 @@ ghost use Rattle.spec_exchange.specs.FirstFailed.{first_failed};
 ghost use Rattle.spec_exchange.specs.Calls.{Sealed, Asks, sent_block_of, sealed_document, protected};
 ghost use Rattle.spec_exchange.specs.Untouched.{mapping_under, values_under, IsSendable, HasNames, AreValues, IsReady, delivery_of};
 
-use jwe_flat::sealed_jwe_opens;
 use spec_messages::blocks::{block_has_one_message, fault_decides, sent_block_is_block};
 use spec_messages::fill_after_split;
 use spec_messages::plain::sent_block_is_shallow;
@@ -32,7 +31,6 @@ pub fn sealed_request_is_delivered()
     fill_after_split();
     fill_fault_decides();
     sent_block_is_shallow();
-    sealed_jwe_opens();
 }
 
 /// A document that was answered to a request at one node is delivered as this request at another that is ready.

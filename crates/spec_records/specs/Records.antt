@@ -5,13 +5,9 @@ use Rattle.std.specs.List.{list_any, position_from}
 use Rattle.std.specs.Option.{option_or}
 use Rattle.spec_messages.specs.Policy.{Policy}
 use Rattle.spec_messages.specs.Message.{Kind, of_request, of_response}
+pub use Rattle.spec_sealing.specs.Suites.{Suite, A128Gcm, A256Gcm}
 
 -- ---- records
-
--- a suite of content encryption (RFC 7518 section 5.3)
-pub data Suite : Type 0 where
-  A128Gcm : Suite
-  A256Gcm : Suite
 
 -- the bytes of a key of the suite
 abbrev pub key_length : Suite → ℕ

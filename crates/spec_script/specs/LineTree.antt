@@ -4,7 +4,7 @@ use Rattle.std.specs.Str.{is_utf8}
 use Rattle.serde_json.specs.Data.{Data}
 use Rattle.serde_json.specs.Read.{read}
 use Rattle.spec_documents.specs.Tree.{Tree}
-use Rattle.n32_values.specs.Reading.{tree_from}
+use Rattle.spec_documents.specs.Reading.{tree_from}
 use Rattle.spec_script.specs.Refusals.{Refusal, Syntax, OtherNumber}
 
 -- the value that a text in UTF-8 is

@@ -8,8 +8,7 @@ use Rattle.spec_messages.specs.AddressText.{address_text}
 use Rattle.spec_messages.specs.Limits as limits
 use Rattle.spec_messages.specs.Fault as block
 use Rattle.spec_messages.specs.Rebuilt.{FillFault, not_text, too_deep}
-use Rattle.jwe_flat.specs.declared.opening.CipherWhy.{CipherWhy}
-use Rattle.jwe_flat.specs.declared.opening.CipherWhy.TheVariants.{Alg, Enc, Zip, Crit}
+use Rattle.spec_sealing.specs.Header.{Misfit, Alg, Enc, Zip, Crit}
 use Rattle.spec_exchange.specs.Rebuilding.{RebuildWhy, no_values, no_block, no_fill}
 use Rattle.spec_exchange.specs.Refusals as exchange
 use Rattle.spec_script.specs.Refusals.{Refusal, Syntax, OtherNumber, BadEvent, NodeUnknown, NodeExists, WireUnknown, BadMessage, DeepBody, BadPolicy, ContextUsed, KeysTwice, OfCall}
@@ -106,7 +105,7 @@ limit_name exchange.many_values = codes "values"
 limit_name exchange.long_block = codes "block"
 limit_name exchange.many_records = codes "records"
 
-abbrev pub cipher_name : CipherWhy → List ℕ
+abbrev pub cipher_name : Misfit → List ℕ
 cipher_name Alg = codes "alg"
 cipher_name Enc = codes "enc"
 cipher_name Zip = codes "zip"

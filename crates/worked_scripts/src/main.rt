@@ -1,5 +1,7 @@
-//! Worked scripts: this program answers the events of a script over records in memory, and its stored run is the example of
-//! `examples/`. What else crosses the crates below is shown by its tests.
+//! Worked scripts: this program answers the events of a script over records in memory. Its stored run is the example of
+//! `examples/` and, behind that, one line for each thing that a sender or a receiver may answer. What a script can't show
+//! is shown by the tests: runs over objects that fail, over records that were held before and over a file, and worlds that
+//! were made by hand.
 #![tactic(auto)]
 
 ghost use Rattle.std.specs.Prelude.{◌≡◌, ◌≢◌, Some, IfOk};
@@ -16,7 +18,11 @@ use std::process::ExitCode;
 #[cfg(test)]
 mod answers;
 #[cfg(test)]
-mod scripts;
+mod records;
+#[cfg(test)]
+mod runs;
+#[cfg(test)]
+mod worlds;
 
 // The words of the call that is answered.
 fn replay_words(alloc: Global) -> Result<TextList, NoMemory>

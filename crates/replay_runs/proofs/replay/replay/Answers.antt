@@ -28,7 +28,7 @@ returns-in-Err-Keeper-clause-front g c = none_told (g.S.Source.left c.args.sourc
 
 pub returns-clause-theorem : goal.returns-clause-theorem
 returns-clause-theorem g c =
-    memory_leaves (g.S.Source.left c.args.source.now) (g.K.Keeper.held c.args.keeper.now) (g.K.Keeper.held c.load_world.new.keeper) _ _ _ c.load_world.ensures.later
+    memory_leaves (g.S.Source.left c.args.source.now) (g.K.Keeper.held c.args.keeper.now) (g.K.Keeper.held c.load_world.new.keeper) _ _ _ c.load_world.ensures.same c.load_world.ensures.later
 
 pub returns-clause-front : goal.returns-clause-front
 returns-clause-front g c = none_told (g.S.Source.left c.args.source.now) (g.K.Keeper.held c.args.keeper.now) (g.O.Sink.written c.args.sink.now)

@@ -7,7 +7,7 @@ use Rattle.replay_runs.proofs.replay.replay_lines.Goals as goal
 pub returns-clause-theorem : goal.returns-clause-theorem
 returns-clause-theorem g c =
     leaves_lent (λ m. g.K.Keeper.held m.keeper.now) (λ m. g.K.Keeper.faults m.keeper.now) (λ m. m.world.now) _ (g.S.Source.left c.args.source.now) _ _ c.run.new.machine c.args.world.now.store.records _ _ _ _ _ _
-    c.requires.held c.requires.few (λ records. begins_of c.args.world.now records c.requires.sites c.requires.wire) (λ a b h. h.1) (grind (arith, common_steps)) (grind (arith, common_steps)) c.from.ensures c.run.ensures.script
+    c.requires.held c.requires.few (λ records. begins_of c.args.world.now records c.requires.sites c.requires.wire) (λ a b n line h. h) (grind (arith, common_steps)) (grind (arith, common_steps)) c.from.ensures c.run.ensures.script
 
 pub returns-clause-complete : goal.returns-clause-complete
 returns-clause-complete g c = complete_told (g.S.Source.left c.args.source.now) _ _ c.run.result c.from.result c.from.ensures c.run.ensures.read_fault c.run.ensures.write_fault c.run.ensures.complete

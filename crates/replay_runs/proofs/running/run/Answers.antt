@@ -1,11 +1,31 @@
-use Rattle.replay_runs.proofs.BlockLemmas.{leaves_told, front_told, complete_told}
+use Rattle.std.proofs.Common.{◌≡◌, Some, None, refl, sym, ◌∙◌}
+use Rattle.replay_runs.specs.Commands.{command_of}
+use Rattle.replay_runs.specs.declared.command.Command.TheVariants.{Blocks, Replay}
 use Rattle.replay_runs.proofs.running.run.Goals as goal
 
-pub returns-in-Some-Blocks-clause-blocks : goal.returns-in-Some-Blocks-clause-blocks
-returns-in-Some-Blocks-clause-blocks g c = λ _. leaves_told (g.S.Source.left c.args.source.now) _ _ _ _ _ _ c.from.result c.from.ensures c.run.ensures.script
+pub returns-in-Some-Blocks-clause-ran : goal.returns-in-Some-Blocks-clause-ran
+returns-in-Some-Blocks-clause-ran g c =
+    let is : c.read_command.result ≡ Some Blocks = cc in
+    let command : command_of c.args.words.now ≡ Some Blocks = sym c.read_command.ensures ∙ is in
+    rw command (record { ending = c.run.result; is = c.from.ensures; runs = c.run.ensures.runs; keeper_stays = refl })
 
-pub returns-in-Some-Blocks-clause-front : goal.returns-in-Some-Blocks-clause-front
-returns-in-Some-Blocks-clause-front g c = λ _. front_told (g.S.Source.left c.args.source.now) _ _ _ _ _ _ c.run.ensures.script
+pub returns-in-Some-Replay-clause-ran : goal.returns-in-Some-Replay-clause-ran
+returns-in-Some-Replay-clause-ran g c =
+    let is : c.read_command.result ≡ Some Replay = cc in
+    let command : command_of c.args.words.now ≡ Some Replay = sym c.read_command.ensures ∙ is in
+    rw command (record {
+      leaves = c.replay.ensures.theorem;
+      front = c.replay.ensures.front;
+      taken = c.replay.ensures.taken;
+      journal = c.replay.ensures.journal;
+      bad = c.replay.ensures.bad;
+      load = c.replay.ensures.load;
+      complete = c.replay.ensures.complete;
+      known = c.replay.ensures.named;
+    })
 
-pub returns-in-Some-Blocks-clause-complete : goal.returns-in-Some-Blocks-clause-complete
-returns-in-Some-Blocks-clause-complete g c = λ _. complete_told (g.S.Source.left c.args.source.now) _ _ c.run.result c.from.result c.from.ensures c.run.ensures.read_fault c.run.ensures.write_fault c.run.ensures.complete
+pub returns-in-None-clause-ran : goal.returns-in-None-clause-ran
+returns-in-None-clause-ran g c =
+    let is : c.read_command.result ≡ None = cc in
+    let command : command_of c.args.words.now ≡ None = sym c.read_command.ensures ∙ is in
+    rw command (record { words = refl; source_stays = refl; sink_stays = refl; keeper_stays = refl })

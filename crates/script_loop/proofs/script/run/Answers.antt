@@ -4,13 +4,16 @@ use Rattle.std.specs.Io.KnownBytes.{Consumes}
 use Rattle.script_loop.specs.Limits.{script_limit}
 use Rattle.script_loop.specs.declared.ending.Ending.TheVariants.{ReadFault}
 use Rattle.script_loop.proofs.Complete.{complete_told}
-use Rattle.script_loop.proofs.Endings.{few}
+use Rattle.script_loop.proofs.Endings.{few, nothing_told}
 use Rattle.script_loop.proofs.Told.{read_fault_told, finish_told, past_told, feed_told, reaches_on, takes, one_byte}
 use Rattle.script_loop.proofs.script.run.Goals as goal
 
+pub returns-in_default-clause-script : goal.returns-in_default-clause-script
+returns-in_default-clause-script g c = nothing_told g.M.Machine.gives g.M.Machine.gives_up (g.S.Source.left c.args.source.now) _ _
+
 pub returns-in_default-read_chunk-clause-script : goal.returns-in_default-read_chunk-clause-script
 returns-in_default-read_chunk-clause-script g c =
-    read_fault_told g.M.Machine.gives g.M.Machine.gives_up _ _ _ _ _ _ _ _ _ _ c.loop-count.invariant.reaches c.in_default-read_chunk.ensures.bytes
+    read_fault_told g.M.Machine.gives g.M.Machine.gives_up _ _ _ _ _ _ _ _ _ _ c.loop-count.invariant.reaches c.in_default-read_chunk.ensures.bytes c.loop-count.invariant.within
 
 pub finish-requires-clause-number : goal.finish-requires-clause-number
 finish-requires-clause-number g c = omega (arith, few g.M.Machine.gives _ _ _ _ _ _ _ _ _ c.loop-count.invariant.reaches, c.loop-count.invariant.within)
@@ -68,7 +71,7 @@ loop-count-preserved g c =
 pub returns-in_default-read_chunk-clause-complete : goal.returns-in_default-read_chunk-clause-complete
 returns-in_default-read_chunk-clause-complete g c =
     complete_told g.M.Machine.gives g.M.Machine.gives_up (g.S.Source.left c.args.source.now) (g.S.Source.left c.read_chunk.new.source) c.args.machine.now c.loop-count.machine (g.O.Sink.written c.args.sink.now) (g.O.Sink.written c.loop-count.sink) ReadFault
-    (read_fault_told g.M.Machine.gives g.M.Machine.gives_up _ _ _ _ _ _ _ _ _ _ c.loop-count.invariant.reaches c.in_default-read_chunk.ensures.bytes)
+    (read_fault_told g.M.Machine.gives g.M.Machine.gives_up _ _ _ _ _ _ _ _ _ _ c.loop-count.invariant.reaches c.in_default-read_chunk.ensures.bytes c.loop-count.invariant.within)
 
 pub returns-then-count-eq0-clause-complete : goal.returns-then-count-eq0-clause-complete
 returns-then-count-eq0-clause-complete g c =

@@ -12,10 +12,6 @@ pub returns-clause-last : goal.returns-clause-last
 unfolding rfc.encode_symbols
 returns-clause-last c = refl
 
-pub returns-clause-header : goal.returns-clause-header
-unfolding rfc.encode_symbols print.escape_byte
-returns-clause-header c = refl
-
 pub returns-clause-block : goal.returns-clause-block
 unfolding print.escape_byte ids.id_text
 returns-clause-block c = refl

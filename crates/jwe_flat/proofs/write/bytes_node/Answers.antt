@@ -1,5 +1,0 @@
-use Rattle.std.proofs.Common.{arith}
-use Rattle.jwe_flat.proofs.write.bytes_node.Goals as goal
-
-pub returns-clause-bytes : goal.returns-clause-bytes
-returns-clause-bytes c = λ i. let fits = c.type_inv.bytes i in omega arith

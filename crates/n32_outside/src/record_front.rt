@@ -1,0 +1,24 @@
+/// Whether the bytes may be the front of a record's text: so far as they go, they are as each record's text begins.
+///
+/// A record's text is compact and has its members in the order of their names. So it begins with its `first`, where it has one, else with
+/// `id` and `is`. An id is sixteen hexadecimal digits in lower case.
+pub fn may_begin_record(text: &[u8]) -> bool {
+    agrees(text, b"{\"id\":\"0000000000000000\",\"is\":\"") || agrees(text, b"{\"first\":0")
+}
+
+// Whether the text is as the pattern, so far as both go. A 0 of the pattern stands for any digit.
+fn agrees(text: &[u8], pattern: &[u8]) -> bool {
+    for i in 0..text.len() {
+        if i >= pattern.len() {
+            return true;
+        }
+        if text[i] != pattern[i] && !(pattern[i] == b'0' && is_digit(text[i])) {
+            return false;
+        }
+    }
+    true
+}
+
+fn is_digit(byte: u8) -> bool {
+    matches!(byte, b'0'..=b'9' | b'a'..=b'f')
+}

@@ -1,0 +1,84 @@
+-- What a run comes to, by cases of the command that its words are.
+use Rattle.std.specs.Prelude.{◌≡◌, ◌≢◌, ℕ, ◌+◌, ◌≤◌, List, length, Option, Some, None, IfSome}
+use Rattle.std.specs.Io.KnownBytes.{Consumes}
+use Rattle.n32_outside.specs.Causes.{Rose}
+use Rattle.script_loop.specs.Limits.{script_limit}
+use Rattle.script_loop.specs.Lines.{IsWithin}
+use Rattle.script_loop.specs.declared.ending.Ending.{Ending}
+use Rattle.context_store.specs.Stores.{IsFirstBad}
+use Rattle.blocks_word.specs.BlockRuns as blocks
+use Rattle.replay_runs.specs.Statuses.{status_of}
+use Rattle.replay_runs.specs.Replays.{Leaves, WritesFront, OverRecords, AreHeld, IsComplete}
+use Rattle.replay_runs.specs.Loads.{IsRefused, NamesBad, AtLoad, Untouched}
+use Rattle.replay_runs.specs.declared.command.Command.{Command}
+use Rattle.replay_runs.specs.declared.command.Command.TheVariants.{Blocks, Replay}
+use Rattle.replay_runs.specs.declared.status.Status.{Status}
+use Rattle.replay_runs.specs.declared.status.Status.TheVariants as status
+
+-- What source, sink and keeper tell: the bytes that are left, those that were written, the texts that are held, and how often each failed.
+pub record Seen : Type 0 where
+  pub left : Option (List ℕ)
+  pub written : Option (List ℕ)
+  pub held : Option (List (List ℕ))
+  pub read_faults : ℕ
+  pub write_faults : ℕ
+  pub keeper_faults : ℕ
+
+abbrev pub seen : (left written : Option (List ℕ)) (held : Option (List (List ℕ))) (read_faults write_faults keeper_faults : ℕ) → Seen
+seen left written held read_faults write_faults keeper_faults = record {
+  left = left;
+  written = written;
+  held = held;
+  read_faults = read_faults;
+  write_faults = write_faults;
+  keeper_faults = keeper_faults;
+}
+
+-- A fault is told only where the object failed in this run.
+pub record HasCauses (before after : Seen) (result : Status) : Type 0 where
+  pub read_fault : result ≡ status.ReadFault → Rose before.read_faults after.read_faults
+  pub write_fault : result ≡ status.WriteFault → Rose before.write_faults after.write_faults
+  pub keeper_fault : result ≡ status.KeeperFault → Rose before.keeper_faults after.keeper_faults
+  pub reading : before.read_faults ≤ after.read_faults
+  pub writing : before.write_faults ≤ after.write_faults
+  pub keeping : before.keeper_faults ≤ after.keeper_faults
+
+-- ---- by the command
+
+-- Other words are refused before anything is read or written, and before the keeper is asked.
+pub record IsUnknown {S O K : Type 0} (source source' : S) (sink sink' : O) (keeper keeper' : K) (result : Status) : Type 0 where
+  pub words : result ≡ status.Words
+  pub source_stays : source' ≡ source
+  pub sink_stays : sink' ≡ sink
+  pub keeper_stays : keeper' ≡ keeper
+
+-- `blocks`, which asks no keeper
+pub record RunsBlocks {K : Type 0} (keeper keeper' : K) (before after : Seen) (result : Status) : Type 0 where
+  pub ending : Ending
+  pub is : result ≡ status_of ending
+  pub runs : blocks.Runs before.left after.left before.written after.written ending
+  pub keeper_stays : keeper' ≡ keeper
+
+-- `replay`: THE REPLAY THEOREM
+pub record RunsReplay {S O : Type 0} (source source' : S) (sink sink' : O) (before after : Seen) (result : Status) : Type 0 where
+  -- what is left, by the status, where the source tells its bytes, and the keeper texts that are all of records
+  pub leaves : IfSome before.left (λ script. OverRecords before.held (λ records.
+      Leaves script after.left records after.held before.keeper_faults after.keeper_faults before.written after.written result))
+  -- whatever the status, a front of an output over these records was written
+  pub front : IfSome before.left (λ script. OverRecords before.held (λ records. WritesFront script records before.written after.written))
+  -- at most one byte more than a script may have is read
+  pub taken : (bytes : List ℕ) × (length bytes ≤ script_limit + 1) × Consumes before.left after.left bytes
+  -- The load at the start names the first text that is no record, and none where there is none. Then, and where the keeper fails in the load, nothing is read or written, and the same is held.
+  pub journal : NamesBad before.held result
+  pub bad : IfSome before.held (λ texts. (k : ℕ) → IsFirstBad texts k → IsRefused k result × Untouched source source' sink sink' before.held after.held)
+  pub load : AtLoad (Untouched source source' sink sink' before.held after.held) result
+  -- A script within the limits over records that may be held is answered whole, unless memory was refused or source, sink or keeper failed.
+  pub complete : IfSome before.left (λ script. IsWithin script → IfSome before.held (λ texts. AreHeld texts
+      → IsComplete (Rose before.read_faults after.read_faults) (Rose before.write_faults after.write_faults) (Rose before.keeper_faults after.keeper_faults) result))
+  pub known : result ≢ status.Words
+
+-- source, sink and keeper, and what they tell, before and after
+abbrev pub Ran : {S O K : Type 0} → Option Command → (source source' : S) (sink sink' : O) (keeper keeper' : K) (before after : Seen) → Status → Type 0
+Ran None source source' sink sink' keeper keeper' before after result = IsUnknown source source' sink sink' keeper keeper' result
+Ran (Some Blocks) source source' sink sink' keeper keeper' before after result = RunsBlocks keeper keeper' before after result
+Ran (Some Replay) source source' sink sink' keeper keeper' before after result = RunsReplay source source' sink sink' before after result

@@ -1,0 +1,4 @@
+pub mod KeyStream
+pub mod Headers
+pub mod Opening
+pub mod Written

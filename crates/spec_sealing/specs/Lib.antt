@@ -1,0 +1,12 @@
+pub mod AesField
+pub mod Aes
+pub mod AesVectors
+pub mod GcmField
+pub mod Gcm
+pub mod GcmVectors
+pub mod Suites
+pub mod Header
+pub mod Jwe
+pub mod Plaintext
+pub mod Received
+pub mod Forms

@@ -1,0 +1,106 @@
+// The calls by their names.
+use crate::args::Args;
+use crate::given::Given;
+use crate::{
+    blocks, changes, ciphers, differences, holes, jwes, messages, pointers, policies, records,
+    sealing, texts, values, wires,
+};
+use n32_values::Node;
+use std::alloc::Global;
+
+/// What the call of this name answers.
+pub fn answer_call(alloc: Global, name: &str, args: Args<'_>, given: &Given) -> Option<Node> {
+    match name {
+        "read_doc" => values::read_doc_call(alloc, given),
+        "doc_text" => values::doc_text_call(alloc, given),
+        "text_length" => values::text_length_call(alloc, given),
+        "depth" => values::depth_call(alloc, given),
+        "read_hex64" => values::read_hex64_call(args),
+        "hex64_text" => values::hex64_text_call(alloc, args),
+        "read_plmn" => values::read_plmn_call(alloc, args),
+        "base64url_text" => values::base64url_text_call(alloc, given),
+        "read_base64url" => values::read_base64url_call(alloc, args),
+        "put_member" => changes::put_member_call(alloc, args),
+        "write_member" => changes::write_member_call(alloc, args),
+        "take_member" => changes::take_member_call(alloc, args),
+        "insert_item" => changes::insert_item_call(alloc, args),
+        "write_item" => changes::write_item_call(alloc, args),
+        "take_item" => changes::take_item_call(alloc, args),
+        "doc_list" => changes::doc_list_call(alloc, args),
+        "fits" => texts::fits_call(args, given),
+        "read_pointer" => pointers::read_pointer_call(alloc, args),
+        "pointer_text" => pointers::pointer_text_call(alloc, args),
+        "is_prefix" => pointers::is_prefix_call(given),
+        "find" => pointers::find_call(alloc, args, given),
+        "places" => holes::places_call(alloc, args, given),
+        "fill" => holes::fill_call(alloc, args, given),
+        "has_hole_spelling" => holes::has_hole_spelling_call(args),
+        _ => message_call(alloc, name, args, given),
+    }
+}
+
+// Messages and policies.
+fn message_call(alloc: Global, name: &str, args: Args<'_>, given: &Given) -> Option<Node> {
+    match name {
+        "read_policy" => policies::read_policy_call(alloc, args),
+        "is_policy" => policies::is_policy_call(given),
+        "same_policy" => policies::same_policy_call(alloc, given),
+        "mapping_of" => policies::mapping_of_call(given),
+        "is_secret" => policies::is_secret_call(args, given),
+        "is_secret_segment" => policies::is_secret_segment_call(args, given),
+        "is_secret_pair" => policies::is_secret_pair_call(args, given),
+        "is_secret_header" => policies::is_secret_header_call(args, given),
+        "is_secret_node" => policies::is_secret_node_call(args, given),
+        "is_modifiable" => policies::is_modifiable_call(args, given),
+        "address_text" => policies::address_text_call(alloc, given),
+        "read_message" => messages::read_message_call(alloc, args),
+        "message_doc" => messages::message_doc_call(alloc, given),
+        "is_whole" => messages::is_whole_call(given),
+        "query_pairs" => messages::query_pairs_call(alloc, given),
+        "headers" => messages::headers_call(alloc, given),
+        "path_segments" => messages::path_segments_call(alloc, given),
+        "first_fixed" => differences::first_fixed_call(alloc, args, given),
+        _ => block_call(alloc, name, args, given),
+    }
+}
+
+// Blocks and what is made of them.
+fn block_call(alloc: Global, name: &str, args: Args<'_>, given: &Given) -> Option<Node> {
+    match name {
+        "block_fault" => blocks::block_fault_call(alloc, args, given),
+        "read_meta" => blocks::read_meta_call(alloc, given),
+        "split" => blocks::split_call(alloc, args, given),
+        "split_limit" => blocks::split_limit_call(alloc, args, given),
+        "split_length" => blocks::split_length_call(alloc, args, given),
+        "split_and_rebuild" => blocks::split_and_rebuild_call(alloc, args, given),
+        "read_block" => blocks::read_block_call(alloc, args, given),
+        "clear_message" => blocks::clear_message_call(alloc, args, given),
+        "fill_message" => blocks::fill_message_call(alloc, args, given),
+        "rebuild" => blocks::rebuild_call(alloc, args, given),
+        "first_in_clear" => sealing::first_in_clear_call(alloc, args, given),
+        _ => sealed_call(alloc, name, args, given),
+    }
+}
+
+// Ciphers, and what is sealed with them or kept of them.
+fn sealed_call(alloc: Global, name: &str, args: Args<'_>, given: &Given) -> Option<Node> {
+    match name {
+        "key" => ciphers::key_call(alloc, args),
+        "encrypt_block" => ciphers::encrypt_block_call(alloc, args),
+        "ghash_times" => ciphers::ghash_times_call(alloc, args),
+        "seal_in_place" => ciphers::seal_in_place_call(alloc, args, given),
+        "open_in_place" => ciphers::open_in_place_call(alloc, args, given),
+        "suite" => jwes::suite_call(alloc, args),
+        "seal_jwe" => jwes::seal_jwe_call(alloc, args),
+        "read_jwe" => jwes::read_jwe_call(alloc, args),
+        "open_jwe" => jwes::open_jwe_call(alloc, args),
+        "open_parts" => jwes::open_parts_call(alloc, args),
+        "values_text" => wires::values_text_call(alloc, args),
+        "read_values" => wires::read_values_call(alloc, given),
+        "read_wire_doc" => wires::read_wire_doc_call(alloc, given),
+        "is_wire_doc" => wires::is_wire_doc_call(alloc, given),
+        "entries" => wires::entries_call(given),
+        "read_record" => records::read_record_call(alloc, args),
+        _ => None,
+    }
+}
