@@ -3,7 +3,7 @@ use Rattle.std.proofs.Common.{◌≡◌, ℕ, suc, List, [], ◌∷◌, nat_lt, 
 use Rattle.spec_documents.specs.Tree.{Tree}
 use Rattle.spec_documents.specs.Place.{Pointer}
 use Rattle.spec_documents.specs.Hole.{HolePlace, HoleFault}
-use Rattle.spec_messages.specs.Fault.{BlockFault, beyond, ie_path, overlap, bad_holes, deep, first_of, when, as_fault, first_pathless, first_overlap, hole_fault, items_depth, path_of, or_root}
+use Rattle.spec_messages.specs.Fault.{BlockFault, ie_path, overlap, bad_holes, deep, first_of, when, as_fault, first_pathless, first_overlap, hole_fault, items_depth, path_of, or_root}
 use Rattle.block_forms.specs.Paths.{paths_of, overlaps, overlap_from}
 use Rattle.block_forms.specs.Faults.{IsFault, Tells, later_fault}
 use Rattle.block_forms.specs.declared.fault.BlockWhy.{BlockWhy}

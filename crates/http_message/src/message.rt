@@ -79,9 +79,9 @@ pub enum Message {
 }
 
 impl Message {
-    ghost use Rattle.std.specs.Prelude.{◌≡◌};
+    ghost use Rattle.std.specs.Prelude.{◌≡◌, map as list_map};
     ghost use Rattle.spec_messages.specs.Message.{kind_of};
-    ghost use Rattle.http_message.specs.Reading.{kind_view, message_view};
+    ghost use Rattle.http_message.specs.Reading.{header_view, kind_view, message_view};
 
     /// Whether it is a request or a response.
     pub fn kind(&self) -> Kind
@@ -90,6 +90,26 @@ impl Message {
         match self {
             Message::Request(_) => Kind::Request,
             Message::Response(_) => Kind::Response,
+        }
+    }
+
+    /// The headers.
+    pub fn headers(&self) -> &HeaderList
+        ensures { list_map header_view result.now ≡ (message_view self.now).headers }
+    {
+        match self {
+            Message::Request(request) => &request.headers,
+            Message::Response(response) => &response.headers,
+        }
+    }
+
+    /// The body, if there is one.
+    pub fn body(&self) -> &Option<Doc>
+        ensures { result.now ≡ (message_view self.now).body }
+    {
+        match self {
+            Message::Request(request) => &request.body,
+            Message::Response(response) => &response.body,
         }
     }
 }

@@ -5,7 +5,7 @@ mod index;
 mod reader;
 mod spell;
 
-ghost use Rattle.std.specs.Prelude.{◌≡◌, [], ◌∷◌, ◌++◌, ◌<◌, Ok, Err, Some, MatchResult, OnOk, OnErr, OnSome, IfOk, IsTrue, ◌↔◌, length, slice_get, bytes_eq};
+ghost use Rattle.std.specs.Prelude.{◌≡◌, [], ◌∷◌, ◌++◌, ◌<◌, Ok, Err, Some, MatchResult, OnOk, OnErr, OnSome, IfOk, IsTrue, ◌↔◌, length, slice_get, take, bytes_eq};
 ghost use Rattle.std.specs.Option.{option_copied};
 ghost use Rattle.spec_documents.specs.Place.{at, child, is_prefix as begins_with};
 ghost use Rattle.n32_values.specs.View.{tree_of};
@@ -100,6 +100,13 @@ impl Pointer {
         ensures err { OnErr result (self.new ≡ self.old) }
     {
         self.tokens.push(token)
+    }
+
+    /// Lets the tokens go that stand past the first `length`.
+    pub fn truncate(&mut self, length: usize)
+        ensures { self.new ≡ take length self.old }
+    {
+        self.tokens.truncate(length)
     }
 
     /// An equal pointer.

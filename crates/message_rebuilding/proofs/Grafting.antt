@@ -4,7 +4,7 @@ use Rattle.std.specs.Ordering.{match_ordering}
 use Rattle.std.proofs.lemmas.List.{map-append}
 use Rattle.spec_documents.specs.Tree.{Tree, null, truth, whole, words, items, members, Members, no_members, member, name_cmp, get_member, put_member, depth, members_depth}
 use Rattle.spec_documents.specs.Place.{Pointer}
-use Rattle.spec_documents.proofs.TreeLemmas.{name_self}
+use Rattle.spec_documents.proofs.TreeLemmas.{name_self, got_low}
 use Rattle.spec_messages.specs.Message.{body_depth}
 use Rattle.spec_messages.specs.Block.{Items, members_of, or_empty_object, grafted, all_grafted, body_of}
 use Rattle.spec_messages.proofs.GrownLemmas.{Each}
@@ -47,16 +47,6 @@ put_low_step k l u w ms Greater h = omega arith
 put_low : (k : List ℕ) (u : Tree) (ms : Members) → members_depth (put_member k u ms) ≤ max (depth u) (members_depth ms)
 put_low k u no_members = omega arith
 put_low k u (member l w ms) = put_low_step k l u w ms (name_cmp k l) (put_low k u ms)
-
-got_low_step : (k l : List ℕ) (u w : Tree) (ms : Members) (o : Ordering) → (get_member k ms ≡ Some u → depth u ≤ members_depth ms)
-    → match_ordering o (get_member k ms) (Some w) (get_member k ms) ≡ Some u → depth u ≤ members_depth (member l w ms)
-got_low_step k l u w ms Less h e = let d = h e in omega arith
-got_low_step k l u w ms Equal h e = let is : w ≡ u = cc in let same = ap depth is in omega arith
-got_low_step k l u w ms Greater h e = let d = h e in omega arith
-
-got_low : (k : List ℕ) (u : Tree) (ms : Members) → get_member k ms ≡ Some u → depth u ≤ members_depth ms
-got_low k u no_members e = cc
-got_low k u (member l w ms) e = got_low_step k l u w ms (name_cmp k l) (got_low k u ms) e
 
 object_low : (t : Tree) → suc (members_depth (members_of t)) ≤ max 1 (depth t)
 object_low null = omega arith

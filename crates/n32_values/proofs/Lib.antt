@@ -8,3 +8,5 @@ pub mod Documents
 pub mod IsTree
 pub mod Hexadecimal
 pub mod UrlTexts
+pub mod Lengths
+pub mod Escapes

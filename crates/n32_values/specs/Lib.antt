@@ -13,4 +13,5 @@ pub use Rattle.spec_documents.specs.Fields
 pub use Rattle.spec_documents.specs.TreeCode
 pub use Rattle.spec_documents.specs.Compact
 pub use Rattle.spec_documents.specs.Base64url
+pub mod Costs
 pub use Rattle.spec_documents.specs.Ids

@@ -1,4 +1,4 @@
-ghost use Rattle.std.specs.Prelude.{◌≡◌, [], ◌∷◌, ◌++◌, ◌<◌, ◌↔◌, length, slice_get, IfOk, IsTrue, OnOk, OnErr, OnSome, Some};
+ghost use Rattle.std.specs.Prelude.{◌≡◌, [], ◌∷◌, ◌++◌, ◌<◌, ◌↔◌, length, slice_get, IfOk, IsTrue, OnOk, OnErr, OnSome, Some, take};
 ghost use Rattle.std.specs.Option.{option_copied};
 
 use crate::doc::Doc;
@@ -100,6 +100,13 @@ impl<T: Drop> List<T> {
         ensures err { OnErr result (self.new ≡ self.old) }
     {
         memory::push(&mut self.inner, item)
+    }
+
+    /// Lets the items go that stand past the first `length`.
+    pub fn truncate(&mut self, length: usize)
+        ensures { self.new ≡ take length self.old }
+    {
+        self.inner.truncate(length)
     }
 }
 

@@ -3,6 +3,7 @@ ghost use Rattle.std.specs.Prelude.{◌≡◌, ◌≤◌, filter, map, option_ma
 ghost use Rattle.std.specs.List.{list_any};
 ghost use Rattle.n32_values.specs.View.{tree_of};
 ghost use Rattle.spec_documents.specs.Place.{pointer_text};
+ghost use Rattle.spec_documents.specs.Tree.{items_in};
 ghost use Rattle.spec_documents.specs.Text as texts;
 ghost use Rattle.spec_messages.specs.Message.{wanted, text_at};
 ghost use Rattle.spec_messages.specs.Policy as spec;
@@ -257,7 +258,7 @@ fn read_method(alloc: Global, map: &NodeMap, k: u32) -> Result<Text, PolicyRead>
 
 #[tactic(auto, using(spec_documents::proofs::FieldLemmas::views))]
 fn wanted_list(node: Option<&Node>, k: u32) -> Result<&NodeList, PolicyRead>
-    ensures { Gives (λ l. l.now) result (wanted (document.listed (option_map (λ n. tree_of n.now) node.entry)) k) }
+    ensures { Gives (λ l. l.now) result (wanted (items_in (option_map (λ n. tree_of n.now) node.entry)) k) }
 {
     match node {
         Some(Node::Items(list)) => Ok(list),
@@ -360,7 +361,7 @@ fn read_types(alloc: Global, node: Option<&Node>) -> Result<TypeList, PolicyRead
 // ---- the policy
 
 fn few_mappings(node: Option<&Node>) -> Result<&NodeList, PolicyRead>
-    ensures value { Gives (λ l. l.now) result (wanted (document.if_few (document.listed (option_map (λ n. tree_of n.now) node.entry))) 0) }
+    ensures value { Gives (λ l. l.now) result (wanted (document.if_few (items_in (option_map (λ n. tree_of n.now) node.entry))) 0) }
     ensures few { IfOk result (λ l. length l.now ≤ 65536) }
 {
     let list = wanted_list(node, 0)?;

@@ -1,8 +1,7 @@
 -- What values of the program are in the words of the definitions.
 use Rattle.std.specs.Prelude.{ℕ, List, [], Option, Some, None, unwrap_or, codes}
-use Rattle.spec_documents.specs.Tree.{Tree, get_member}
+use Rattle.spec_documents.specs.Tree.{Tree, get_member, items_in}
 use Rattle.spec_messages.specs.Block.{members_of}
-use Rattle.spec_sealing.specs.Plaintext.{listed}
 use Rattle.spec_sealing.specs.Received.{Received}
 use Rattle.http_message.specs.Reading.{kind_view}
 use Rattle.jwe_flat.specs.View.{jwe_view, member_name}
@@ -14,7 +13,7 @@ use Rattle.prins_document.specs.declared.document.WireRead.TheVariants.{Form, No
 
 -- the list `modificationsBlock` of a document, if it is one
 abbrev pub entries_of : Tree → Option (List Tree)
-entries_of t = listed (get_member (codes "modificationsBlock") (members_of t))
+entries_of t = items_in (get_member (codes "modificationsBlock") (members_of t))
 
 -- what w says, with these entries
 abbrev pub parts_view : List Tree → WireDoc → Received

@@ -1,10 +1,9 @@
 // The whole document.
 ghost use Rattle.std.specs.Prelude.{◌≡◌, [], is_some, option_map, unwrap_or, codes};
 ghost use Rattle.spec_documents.specs.Gives.{Gives};
-ghost use Rattle.spec_documents.specs.Tree.{get_member};
+ghost use Rattle.spec_documents.specs.Tree.{get_member, items_in};
 ghost use Rattle.spec_messages.specs.Message.{wanted};
 ghost use Rattle.n32_values.specs.View.{tree_of};
-ghost use Rattle.spec_sealing.specs.Plaintext.{listed};
 ghost use Rattle.spec_sealing.specs.Received.{entries_in, received};
 ghost use Rattle.prins_document.specs.View.{entries_of, part_told, wire_view};
 
@@ -71,7 +70,7 @@ impl From<NoMemory> for WireRead {
 
 #[tactic(auto, using(spec_documents::proofs::FieldLemmas::views))]
 fn list_in(node: Option<&Node>) -> Option<&NodeList>
-    ensures { option_map (λ l. l.now) result ≡ listed (option_map (λ n. tree_of n.now) node.entry) }
+    ensures { option_map (λ l. l.now) result ≡ items_in (option_map (λ n. tree_of n.now) node.entry) }
 {
     match node {
         Some(Node::Items(list)) => Some(list),
@@ -105,7 +104,7 @@ fn has_entries(map: &NodeMap) -> bool
 // Refuses entries out of their form.
 #[tactic(auto, using(crate::proofs::Entries::listed_entries))]
 fn check_entries(map: &NodeMap) -> Result<(), WireRead>
-    ensures { Gives part_told (λ _. unwrap_or (listed (get_member (codes "modificationsBlock") map.now)) []) result (wanted (entries_in (get_member (codes "modificationsBlock") map.now)) (codes "modificationsBlock")) }
+    ensures { Gives part_told (λ _. unwrap_or (items_in (get_member (codes "modificationsBlock") map.now)) []) result (wanted (entries_in (get_member (codes "modificationsBlock") map.now)) (codes "modificationsBlock")) }
 {
     if has_entries(map) {
         Ok(())

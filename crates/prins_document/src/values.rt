@@ -1,9 +1,9 @@
 //! The plaintext of a sealed message (after TS 33.501 clause 13.2.4.3.2): the list of values that the
 //! holes of its block stand for.
 ghost use Rattle.std.specs.Prelude.{◌≡◌, ◌≤◌, Some, None, Err, IfOk, option_map};
-ghost use Rattle.spec_documents.specs.Tree.{items_depth, trees};
+ghost use Rattle.spec_documents.specs.Tree.{items_depth, trees, items_in};
 ghost use Rattle.n32_values.specs.View.{tree_of};
-ghost use Rattle.spec_sealing.specs.Plaintext.{listed, plaintext, values_in, values_of};
+ghost use Rattle.spec_sealing.specs.Plaintext.{plaintext, values_in, values_of};
 
 use doc_forms::put;
 use n32_values::{Bytes, DocFault, NoMemory, Node, NodeList, NodeMap, doc_text, read_doc};
@@ -50,7 +50,7 @@ fn values_in(node: Node) -> Option<NodeList>
 
 #[tactic(auto, using(spec_documents::proofs::FieldLemmas::views))]
 fn listed(member: Option<Node>) -> Option<NodeList>
-    ensures { result ≡ listed (option_map tree_of member) }
+    ensures { result ≡ items_in (option_map tree_of member) }
 {
     match member {
         Some(Node::Items(values)) => Some(values),

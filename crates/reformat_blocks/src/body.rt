@@ -1,6 +1,6 @@
 // The items of a body, with a hole in the place of each outermost secret node: one walk that writes
 // the items and the values together.
-ghost use Rattle.std.specs.Prelude.{◌≡◌, ◌<◌, ◌≤◌, ◌-◌, ◌++◌, ◌∷◌, [], IfOk, OnOk, map as list_map, length, take, not, ◌&&◌, nat_lt};
+ghost use Rattle.std.specs.Prelude.{◌≡◌, ◌<◌, ◌≤◌, ◌-◌, ◌++◌, ◌∷◌, [], IfOk, OnOk, map as list_map, length, not, ◌&&◌, nat_lt};
 ghost use Rattle.spec_documents.specs.Fields.{field_list};
 ghost use Rattle.spec_documents.specs.Hole.{hole};
 ghost use Rattle.spec_documents.specs.Place.{pointer_text as text_of};
@@ -16,10 +16,9 @@ use crate::parts::next_index;
 use doc_forms::{hole_node, number_text, put, put_text};
 use http_message::Kind;
 use json_ptr::{Pointer, pointer_text};
-use n32_values::{NoMemory, Node, NodeList, NodeMap, Text, TextList, copy_doc};
+use n32_values::{NoMemory, Node, NodeList, NodeMap, Text, copy_doc};
 use policy_tables::{Policy, is_secret_node};
 use std::alloc::Global;
-use std::mem;
 
 /// The body that is walked, with the policy, the mapping's number and the message's kind.
 #[derive(Clone, Copy, Drop)]
@@ -57,16 +56,6 @@ fn push_name(alloc: Global, pointer: &mut Pointer, name: &str) -> Result<(), NoM
     ensures { OnOk result (pointer.new ≡ pointer.old ++ name.now ∷ []) }
 {
     pointer.push(Text::from_text(alloc, name)?)
-}
-
-fn cut_back(alloc: Global, pointer: &mut Pointer, length: usize)
-    ensures { pointer.new ≡ take length pointer.old }
-{
-    let mut tokens = mem::replace(pointer, Pointer::new(alloc))
-        .into_tokens()
-        .into_vec();
-    tokens.truncate(length);
-    *pointer = Pointer::from_tokens(TextList::from_vec(tokens));
 }
 
 // ---- nodes within an item
@@ -111,7 +100,7 @@ fn hidden_list(
         let index = number_text(alloc, i as u64)?;
         push_name(alloc, pointer, index.as_str())?;
         hidden.push(hidden_node(alloc, body, list.item(i), pointer, values)?)?;
-        cut_back(alloc, pointer, depth);
+        pointer.truncate(depth);
     }
     Ok(hidden)
 }
@@ -135,7 +124,7 @@ fn hidden_map(
         push_name(alloc, pointer, name.as_str())?;
         let node = hidden_node(alloc, body, node, pointer, values)?;
         hidden.push_last(name.copy(alloc)?, node)?;
-        cut_back(alloc, pointer, depth);
+        pointer.truncate(depth);
     }
     Ok(hidden)
 }
@@ -229,7 +218,7 @@ fn push_members(
         let (name, node) = map.entry(i);
         push_name(alloc, pointer, name.as_str())?;
         push_items(alloc, body, node, pointer, items, values)?;
-        cut_back(alloc, pointer, depth);
+        pointer.truncate(depth);
     }
     Ok(())
 }

@@ -1,18 +1,17 @@
 // A message split into a block and the values that it hides.
-ghost use Rattle.std.specs.Prelude.{◌≡◌, ◌≤◌, IfOk, IsTrue, None, length, map as list_map};
+ghost use Rattle.std.specs.Prelude.{◌≡◌, ◌≤◌, IfOk, IsTrue, None, length};
 ghost use Rattle.spec_messages.specs.Block.{is_meta, is_ordered_body};
 ghost use Rattle.spec_messages.specs.Fault.{block_fault};
 ghost use Rattle.spec_messages.specs.Message.{is_whole, body_depth};
-ghost use Rattle.http_message.specs.Reading.{header_view, message_view};
+ghost use Rattle.http_message.specs.Reading.{message_view};
 ghost use Rattle.reformat_blocks.specs.Splitting.{splitting, Splits};
 ghost use Rattle.block_forms.specs.Metadata.{meta_view};
 
 use crate::block::{Block, Split};
 use crate::sent::sent_of;
 use block_forms::{LimitName, Meta};
-use doc_lengths::text_length;
-use http_message::{HeaderList, Message};
-use n32_values::{Doc, NoMemory};
+use http_message::Message;
+use n32_values::{Doc, NoMemory, text_length};
 use policy_tables::Policy;
 use spec_messages::blocks::{fault_decides, sent_block_is_block};
 use spec_messages::plain::sent_block_is_shallow;
@@ -37,23 +36,11 @@ impl From<NoMemory> for SplitFault {
     }
 }
 
-fn headers_of(message: &Message) -> &HeaderList
-    ensures { list_map header_view result.now ≡ (message_view message.now).headers }
-{
-    match message {
-        Message::Request(request) => &request.headers,
-        Message::Response(response) => &response.headers,
-    }
-}
-
 // The names of each object in the body are in order, as those of every document are.
 fn body_is_ordered(message: &Message)
     ensures { IsTrue (is_ordered_body (message_view message.now).body) }
 {
-    match message {
-        Message::Request(request) => is_ordered(&request.body),
-        Message::Response(response) => is_ordered(&response.body),
-    }
+    is_ordered(message.body())
 }
 
 fn is_ordered(body: &Option<Doc>)
@@ -85,7 +72,7 @@ pub fn split(
     fault_decides();
     sent_block_is_shallow();
     body_is_ordered(message);
-    if 256 < headers_of(message).len() {
+    if 256 < message.headers().len() {
         return Err(SplitFault::Limit(LimitName::Headers));
     }
     let sent = sent_of(alloc, policy, mapping, message, &meta)?;

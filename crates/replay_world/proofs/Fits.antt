@@ -1,54 +1,15 @@
 -- What is known of an event that a document is of: its names are in their grammar, and a document in it is less deep.
-use Rattle.std.proofs.Common.{◌≡◌, ◌≤◌, ℕ, suc, List, [], ◌∷◌, length, Bool, true, false, ◌&&◌, nat_le, cond, Option, Some, None, Result, Ok, Err, Ordering, Less, Equal, Greater, refl, ap, subst, IsTrue, bytes_eq, codes, arith}
+use Rattle.std.proofs.Common.{◌≡◌, ◌≤◌, ℕ, List, Bool, true, false, ◌&&◌, cond, Option, Some, None, Result, Ok, Err, refl, subst, IsTrue, bytes_eq, codes, arith}
 use Rattle.std.specs.Prelude.{unwrap_or}
-use Rattle.std.specs.List.{list_all}
-use Rattle.std.specs.Option.{option_and_then}
-use Rattle.std.specs.Ordering.{match_ordering}
-use Rattle.spec_documents.specs.Tree.{Tree, null, truth, whole, words, items, members, Members, no_members, member, name_cmp, get_member, depth, members_depth}
+use Rattle.spec_documents.specs.Tree.{Tree, null, truth, whole, words, items, members, Members, get_member, depth, members_depth}
 use Rattle.spec_documents.specs.Place.{◌>>=◌}
-use Rattle.spec_documents.specs.Text.{is_identity, is_node_name}
-use Rattle.spec_messages.specs.Message.{wanted, any_text, text_if, text_in, onto_read, all_read}
-use Rattle.spec_messages.specs.PolicyDocument.{listed}
-use Rattle.spec_records.specs.RecordDocument.{identities, ipx_in, are_ipx}
+use Rattle.spec_documents.specs.Text.{is_node_name}
+use Rattle.spec_messages.specs.Message.{wanted, any_text, text_in}
+use Rattle.spec_records.specs.RecordDocument.{ipx_in, are_ipx}
+use Rattle.spec_records.proofs.NameLemmas.{passes, ipx_named}
+use Rattle.spec_documents.proofs.TreeLemmas.{got_low}
 use Rattle.spec_script.specs.Events.{Event, AddNode, AddContext, AddKeys, Send, Inject, Deliver, Restart, read_at, node_in, id_in, plmn_in, suite_in, any_value, whole_in, pair_in, first_in, answers_in, node_event, context_event, keys_event, send_event, inject_event, deliver_event, restart_event, event_named, event_of}
 use Rattle.replay_world.specs.Fitting.{IsFit}
-
--- ---- texts of a grammar
-
-passes : (test : List ℕ → Bool) (t : Tree) (s : List ℕ) → text_if test t ≡ Some s → test s ≡ true
-passes test null s e = cc
-passes test (truth b) s e = cc
-passes test (whole z) s e = cc
-passes test (words w) s e = tested (test w) refl e
-  where
-    tested : (b : Bool) → test w ≡ b → cond b (Some w) None ≡ Some s → test s ≡ true
-    tested true f e = let same : w ≡ s = cc in subst (λ z. test z ≡ true) same f
-    tested false f e = cc
-passes test (items ts) s e = cc
-passes test (members ms) s e = cc
-
-record AllPass (test : List ℕ → Bool) (ts : List Tree) (ss : List (List ℕ)) : Type 0 where
-  pub all : list_all test ss ≡ true
-  pub count : length ss ≡ length ts
-
-all_pass : (test : List ℕ → Bool) (ts : List Tree) (ss : List (List ℕ)) → all_read (text_if test) ts ≡ Some ss → AllPass test ts ss
-all_pass test [] ss e = let same : [] ≡ ss = cc in subst (λ z. AllPass test [] z) same (record { all = refl; count = refl })
-all_pass test (t ∷ ts) ss e = step (text_if test t) refl (all_read (text_if test) ts) (λ ys g. all_pass test ts ys g) e
-  where
-    step : (o : Option (List ℕ)) → text_if test t ≡ o → (rest : Option (List (List ℕ))) → ((ys : List (List ℕ)) → rest ≡ Some ys → AllPass test ts ys) → onto_read o rest ≡ Some ss → AllPass test (t ∷ ts) ss
-    step None f rest g e = cc
-    step (Some s) f None g e = cc
-    step (Some s) f (Some ys) g e =
-        let same : s ∷ ys ≡ ss = cc in
-        let more = g ys refl in
-        subst (λ z. AllPass test (t ∷ ts) z) same (record { all = rw (passes test t s f) more.all; count = ap suc more.count })
-
-identities_named : (ts : List Tree) (ss : List (List ℕ)) → identities ts ≡ Some ss → are_ipx ss ≡ true
-identities_named ts ss e = tested (nat_le (length ts) 1) refl e
-  where
-    tested : (b : Bool) → nat_le (length ts) 1 ≡ b → cond b (all_read (text_if is_identity) ts) None ≡ Some ss → are_ipx ss ≡ true
-    tested true f e = let h = all_pass is_identity ts ss e in rw (h.count, f) h.all
-    tested false f e = cc
 
 -- ---- members
 
@@ -64,22 +25,7 @@ name_is k ms node e = step (get_member k ms) (is_some_of (node_in (get_member k 
     step (Some t) e = passes is_node_name t node e
 
 ipx_is : (k : List ℕ) (ms : Members) (ss : List (List ℕ)) → read_at ipx_in k ms ≡ Ok ss → are_ipx ss ≡ true
-ipx_is k ms ss e = step (listed (get_member k ms)) (is_some_of (ipx_in (get_member k ms)) k ss e)
-  where
-    step : (l : Option (List Tree)) → option_and_then identities l ≡ Some ss → are_ipx ss ≡ true
-    step None e = cc
-    step (Some ts) e = identities_named ts ss e
-
-got_low_step : (k l : List ℕ) (u w : Tree) (ms : Members) (o : Ordering) → (get_member k ms ≡ Some u → depth u ≤ members_depth ms)
-    → match_ordering o (get_member k ms) (Some w) (get_member k ms) ≡ Some u → depth u ≤ members_depth (member l w ms)
-got_low_step k l u w ms Less h e = let d = h e in omega arith
-got_low_step k l u w ms Equal h e = let is : w ≡ u = cc in let same = ap depth is in omega arith
-got_low_step k l u w ms Greater h e = let d = h e in omega arith
-
--- a member is less deep than its object
-got_low : (k : List ℕ) (u : Tree) (ms : Members) → get_member k ms ≡ Some u → depth u ≤ members_depth ms
-got_low k u no_members e = cc
-got_low k u (member l w ms) e = got_low_step k l u w ms (name_cmp k l) (got_low k u ms) e
+ipx_is k ms ss e = ipx_named (get_member k ms) ss (is_some_of (ipx_in (get_member k ms)) k ss e)
 
 -- ---- events
 

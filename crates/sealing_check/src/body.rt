@@ -1,6 +1,6 @@
 // The first secret node of a body that stands in clear: one walk over the filled body and the body with
 // holes, side by side.
-ghost use Rattle.std.specs.Prelude.{◌≡◌, ◌++◌, ◌∷◌, [], IfOk, OnOk, option_map, take};
+ghost use Rattle.std.specs.Prelude.{◌≡◌, ◌++◌, ◌∷◌, [], IfOk, OnOk, option_map};
 ghost use Rattle.spec_documents.specs.Tree.{trees};
 ghost use Rattle.n32_values.specs.View.{tree_of};
 ghost use Rattle.sealing_check.specs.Rules.{node_test};
@@ -9,10 +9,9 @@ ghost use Rattle.sealing_check.specs.Found.{child_of, is_marked_there, clear_at,
 use doc_forms::number_text;
 use http_message::Kind;
 use json_ptr::{Pointer, step};
-use n32_values::{NoMemory, Node, NodeList, NodeMap, Text, TextList};
+use n32_values::{NoMemory, Node, NodeList, NodeMap, Text};
 use policy_tables::{Policy, is_secret_node};
 use std::alloc::Global;
-use std::mem;
 
 /// The filled body, with the policy, the mapping's number and the message's kind.
 #[derive(Clone, Copy, Drop)]
@@ -64,16 +63,6 @@ fn push_name(alloc: Global, pointer: &mut Pointer, name: &str) -> Result<(), NoM
     pointer.push(Text::from_text(alloc, name)?)
 }
 
-fn cut_back(alloc: Global, pointer: &mut Pointer, length: usize)
-    ensures { pointer.new ≡ take length pointer.old }
-{
-    let mut tokens = mem::replace(pointer, Pointer::new(alloc))
-        .into_tokens()
-        .into_vec();
-    tokens.truncate(length);
-    *pointer = Pointer::from_tokens(TextList::from_vec(tokens));
-}
-
 /// The place of the first node in clear at or beneath a pointer, which is as before. `holed` is what the
 /// body with holes has there. At a hole all is hidden, and nothing beneath it is looked at.
 #[tactic(auto, using(crate::proofs::Walk::found_none, crate::proofs::Walk::found_here, crate::proofs::Walk::found_beneath))]
@@ -119,7 +108,7 @@ fn clear_item(
         push_name(alloc, pointer, token)?;
         let beside = child(holed, token);
         let found = clear_node(alloc, body, beside, list.item(i), pointer)?;
-        cut_back(alloc, pointer, depth);
+        pointer.truncate(depth);
         if let Some(place) = found {
             return Ok(Some(place));
         }
@@ -145,7 +134,7 @@ fn clear_member(
         push_name(alloc, pointer, token)?;
         let beside = child(holed, token);
         let found = clear_node(alloc, body, beside, node, pointer)?;
-        cut_back(alloc, pointer, depth);
+        pointer.truncate(depth);
         if let Some(place) = found {
             return Ok(Some(place));
         }

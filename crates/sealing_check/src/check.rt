@@ -28,10 +28,7 @@ fn node_of(body: &Option<Doc>) -> Option<&Node>
 fn body_of(message: &Message) -> Option<&Node>
     ensures { option_map (λ n. tree_of n.now) result ≡ (message_view message.now).body }
 {
-    match message {
-        Message::Request(request) => node_of(&request.body),
-        Message::Response(response) => node_of(&response.body),
-    }
+    node_of(message.body())
 }
 
 fn clear_in_line(

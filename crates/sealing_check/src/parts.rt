@@ -27,15 +27,6 @@ fn is_hole(part: &Part) -> bool
     }
 }
 
-fn headers_of(message: &Message) -> &HeaderList
-    ensures { map header_view result.now ≡ (message_view message.now).headers }
-{
-    match message {
-        Message::Request(request) => &request.headers,
-        Message::Response(response) => &response.headers,
-    }
-}
-
 // ---- segments
 
 fn is_segment_hidden(holed: &Message, i: usize) -> bool
@@ -154,7 +145,7 @@ pub(crate) fn clear_pair(
 fn is_header_hidden(holed: &Message, i: usize) -> bool
     ensures { result ≡ is_hidden (message_view holed.now) (spec.header_spot i) }
 {
-    match headers_of(holed).get(i) {
+    match holed.headers().get(i) {
         Some(header) => is_hole(&header.value),
         None => false,
     }

@@ -11,12 +11,6 @@ slash_byte : (i : ℕ) (part : List ℕ) (rest : List ℕ) → tokens_after i pa
 slash_byte i part [] = refl
 slash_byte i part (d ∷ rest) = refl
 
-after_tilde : (i : ℕ) (part : List ℕ) (rest : List ℕ) → tokens_after i part (126 ∷ 48 ∷ rest) ≡ tokens_after (suc (suc i)) (part ++ 126 ∷ []) rest
-after_tilde i part rest = refl
-
-after_slash : (i : ℕ) (part : List ℕ) (rest : List ℕ) → tokens_after i part (126 ∷ 49 ∷ rest) ≡ tokens_after (suc (suc i)) (part ++ 47 ∷ []) rest
-after_slash i part rest = refl
-
 escape_by : (i : ℕ) (part : List ℕ) (c : ℕ) (cs : List ℕ) (r : List ℕ) (out : Result Pointer ℕ) (a b : Bool) → (c == 126) ≡ a → (c == 47) ≡ b
     → ((k : ℕ) → tokens_after k (part ++ c ∷ []) (escaped cs ++ r) ≡ out)
     → tokens_after i part (((if a then 126 ∷ 48 ∷ [] else (if b then 126 ∷ 49 ∷ [] else c ∷ [])) ++ escaped cs) ++ r) ≡ out

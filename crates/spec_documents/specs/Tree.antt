@@ -31,6 +31,16 @@ abbrev pub tree_list : Trees → List Tree
 tree_list no_items = []
 tree_list (item t ts) = t ∷ tree_list ts
 
+-- the items, where there is a list
+abbrev pub items_in : Option Tree → Option (List Tree)
+items_in None = None
+items_in (Some null) = None
+items_in (Some (truth b)) = None
+items_in (Some (whole z)) = None
+items_in (Some (words s)) = None
+items_in (Some (items ts)) = Some (tree_list ts)
+items_in (Some (members ms)) = None
+
 abbrev pub count_items : Trees → ℕ
 count_items no_items = 0
 count_items (item t ts) = suc (count_items ts)

@@ -6,7 +6,7 @@ use Rattle.std.specs.Ordering.{match_ordering}
 use Rattle.spec_documents.specs.Tree.{Tree, null, truth, whole, words, items, members, Trees, no_items, item, Members, no_members, member, name_cmp, depth, items_depth, members_depth}
 use Rattle.spec_documents.specs.Place.{no_place, found, child}
 use Rattle.spec_documents.specs.Text.{index_text}
-use Rattle.spec_documents.specs.Hole.{mark, has_mark, natural, hole_members, Marks, beneath, marks, items_marks, members_marks, mark_here, marks_in, value_marks, list_marks, object_marks, object_mark, text_marks, all_marks, Mark, HolePlace, HoleFault, bad_hole, is_bad, is_bad_index, first_bad, places}
+use Rattle.spec_documents.specs.Hole.{mark, has_mark, natural, hole_members, Marks, beneath, marks, items_marks, members_marks, mark_here, marks_in, value_marks, list_marks, object_marks, object_mark, text_marks, all_marks, HolePlace, HoleFault, bad_hole, is_bad, is_bad_index, first_bad, places}
 use Rattle.spec_messages.specs.Message.{Message, all_read}
 use Rattle.spec_messages.specs.Block.{Block, header_tree, item_tree, list_tree, block_tree, block_items, Items, item_of, IsBlock, open_depth, items_open_depth, members_open_depth, is_apart, body_of}
 use Rattle.spec_documents.proofs.MarkLemmas.{any-append}
@@ -15,7 +15,7 @@ use Rattle.spec_messages.proofs.BlockLemmas.{list_node, payload-block}
 use Rattle.spec_messages.proofs.GrownLemmas.{Each}
 use Rattle.spec_messages.proofs.BodyLemmas.{body-unique, body-high}
 use Rattle.spec_messages.proofs.ItemFaults.{Named, PathsOf, item_list, items-paths, any_bad, bad-beneath}
-use Rattle.spec_messages.proofs.BlockLaws.{named_of, payload_items}
+use Rattle.spec_messages.proofs.BlockLaws.{named_of, payload_items, none_bad}
 
 -- ---- a tree whose marked objects are holes
 
@@ -73,14 +73,6 @@ mutual
       let rest = sound_members n ms p.1 in omega arith
 
 -- ---- the marks of a block whose places are there
-
-none_bad : (n : ℕ) (ms : List Mark) → first_bad n ms ≡ None → list_any (is_bad n) ms ≡ false
-none_bad n [] e = refl
-none_bad n (m ∷ ms) e = by (is_bad n m) e (none_bad n ms)
-  where
-    by : (b : Bool) → (if b then Some m.place else first_bad n ms) ≡ None → (first_bad n ms ≡ None → list_any (is_bad n) ms ≡ false) → (b || list_any (is_bad n) ms) ≡ false
-    by true e more = cc
-    by false e more = more e
 
 bad_objects : (n : ℕ) (ms : Marks) → list_any (is_bad n) (map object_mark ms) ≡ any_bad n ms
 bad_objects n [] = refl

@@ -1,12 +1,11 @@
--- The body that filled items make is the body of the items, filled; and no body is deeper than its items.
-use Rattle.std.proofs.Common.{◌≡◌, ℕ, zero, suc, ◌+◌, ◌≤◌, max, length, List, [], ◌∷◌, map, Bool, true, false, ◌&&◌, ◌||◌, Option, Some, None, option_map, Ordering, Less, Equal, Greater, refl, sym, ap, ap₂, ◌∙◌, subst, is_some, arith, bytes_eq}
+-- The body that filled items make is the body of the items, filled.
+use Rattle.std.proofs.Common.{◌≡◌, ℕ, List, [], ◌∷◌, map, Bool, true, false, ◌&&◌, ◌||◌, Option, Some, None, option_map, Ordering, Less, Equal, Greater, refl, sym, ap, ap₂, ◌∙◌, subst, is_some, bytes_eq}
 use Rattle.std.proofs.lemmas.Bool.{or_parts}
 use Rattle.std.specs.List.{list_any}
 use Rattle.std.specs.Ordering.{match_ordering}
-use Rattle.spec_documents.specs.Tree.{Tree, null, truth, whole, words, items, members, Members, no_members, member, name_cmp, get_member, put_member, depth, members_depth}
+use Rattle.spec_documents.specs.Tree.{Tree, null, truth, whole, words, items, members, Members, no_members, member, name_cmp, get_member, put_member}
 use Rattle.spec_documents.specs.Place.{Pointer, is_prefix}
 use Rattle.spec_documents.specs.Hole.{mark, is_marked, has_mark, fill, fill_members}
-use Rattle.spec_messages.specs.Message.{body_depth}
 use Rattle.spec_messages.specs.Block.{Items, members_of, is_apart, or_empty_object, grafted, all_grafted, body_of}
 use Rattle.spec_documents.proofs.TreeLemmas.{get_put_same, get_put_other}
 use Rattle.spec_documents.proofs.FillLemmas.{fill-unmarked, fill-put_member}
@@ -133,60 +132,3 @@ all_open (i ∷ is) = (open_empty i.0, all_open is)
 pub fill-body : (vs : List Tree) (is : Items) → is_apart is ≡ true → body_of (filled_items vs is) ≡ option_map (fill vs) (body_of is)
 fill-body vs [] a = refl
 fill-body vs (i ∷ is) a = ap Some (sym (fill-all vs (i ∷ is) (members no_members) a (all_open (i ∷ is))))
-
--- ---- depth
-
-put_depth : (k : List ℕ) (u : Tree) (ms : Members) → members_depth (put_member k u ms) ≤ max (depth u) (members_depth ms)
-put_depth k u no_members = omega arith
-put_depth k u (member l w ms) = by (name_cmp k l) (put_depth k u ms)
-  where
-    by : (o : Ordering) → members_depth (put_member k u ms) ≤ max (depth u) (members_depth ms)
-        → members_depth (match_ordering o (member k u (member l w ms)) (member l u ms) (member l w (put_member k u ms))) ≤ max (depth u) (members_depth (member l w ms))
-    by Less h = omega arith
-    by Equal h = omega arith
-    by Greater h = omega arith
-
-get_depth : (k : List ℕ) (ms : Members) (o : Option Tree) → get_member k ms ≡ o → body_depth o ≤ members_depth ms
-get_depth k no_members o e = subst (λ x. body_depth x ≤ 0) e (omega arith)
-get_depth k (member l w ms) o e = subst (λ x. body_depth x ≤ max (depth w) (members_depth ms)) e (by (name_cmp k l) (get_depth k ms (get_member k ms) refl))
-  where
-    by : (c : Ordering) → body_depth (get_member k ms) ≤ members_depth ms → body_depth (match_ordering c (get_member k ms) (Some w) (get_member k ms)) ≤ max (depth w) (members_depth ms)
-    by Less h = omega arith
-    by Equal h = omega arith
-    by Greater h = omega arith
-
-members_low : (N : ℕ) (t : Tree) → depth t ≤ suc N → members_depth (members_of t) ≤ N
-members_low N null h = omega arith
-members_low N (truth b) h = omega arith
-members_low N (whole z) h = omega arith
-members_low N (words s) h = omega arith
-members_low N (items ts) h = omega arith
-members_low N (members ms) h = omega arith
-
-below_low : (N : ℕ) (o : Option Tree) → body_depth o ≤ suc N → depth (or_empty_object o) ≤ suc N
-below_low N None h = omega arith
-below_low N (Some t) h = h
-
--- one step: what is put, and what stays, nest at most N deep
-pub graft_step : (N : ℕ) (x : List ℕ) (u t : Tree) → depth u ≤ N → members_depth (members_of t) ≤ N → depth (members (put_member x u (members_of t))) ≤ suc N
-graft_step N x u t h d = let e = put_depth x u (members_of t) in omega arith
-
-pub grafted-depth : (N : ℕ) (p : Pointer) (v t : Tree) → length p + depth v ≤ suc N → depth t ≤ suc N → depth (grafted p v t) ≤ suc N
-grafted-depth N [] v t l d = omega arith
-grafted-depth zero (x ∷ []) v t l d =
-    let h = members_low 0 t d in
-    graft_step 0 x v t (omega arith) h
-grafted-depth zero (x ∷ y ∷ p) v t l d = absurd (omega arith)
-grafted-depth (suc N) (x ∷ p) v t l d =
-    let h = members_low (suc N) t d in
-    let b = get_depth x (members_of t) (get_member x (members_of t)) refl in
-    let low = below_low N (get_member x (members_of t)) (omega arith) in
-    graft_step (suc N) x (grafted p v (or_empty_object (get_member x (members_of t)))) t (grafted-depth N p v (or_empty_object (get_member x (members_of t))) (omega arith) low) h
-
-all_depth : (N : ℕ) (is : Items) (t : Tree) → Each (λ p v. length p + depth v ≤ suc N) is → depth t ≤ suc N → depth (all_grafted is t) ≤ suc N
-all_depth N [] t h d = d
-all_depth N (i ∷ is) t h d = all_depth N is (grafted i.0 i.1 t) h.1 (grafted-depth N i.0 i.1 t h.0 d)
-
-pub body-depth : (N : ℕ) (is : Items) → Each (λ p v. length p + depth v ≤ suc N) is → body_depth (body_of is) ≤ suc N
-body-depth N [] h = omega arith
-body-depth N (i ∷ is) h = all_depth N (i ∷ is) (members no_members) h (omega arith)

@@ -5,7 +5,7 @@ use Rattle.std.specs.Str.{bytes_eq}
 use Rattle.std.proofs.lemmas.Bool.{and_from, and_parts, eqb-true, leb-true}
 use Rattle.std.proofs.lemmas.List.{length-map}
 use Rattle.std.proofs.lemmas.Slice.Eq.{bytes_eq-Decides}
-use Rattle.spec_documents.specs.Tree.{Tree, null, truth, whole, words, items, members, get_member}
+use Rattle.spec_documents.specs.Tree.{Tree, null, truth, whole, words, items, members, get_member, items_in}
 use Rattle.spec_documents.specs.Place.{◌>>=◌, read_pointer}
 use Rattle.spec_documents.specs.Fields.{Field, fields, field_list}
 use Rattle.spec_documents.specs.Text.{is_uri_byte, is_segment, is_query_name, is_header_name, is_method, lower, pieces, cut_at, is_identity}
@@ -14,7 +14,7 @@ use Rattle.spec_documents.proofs.FieldLemmas.{list-trees, fields-field_list}
 use Rattle.spec_documents.proofs.HeadLemmas.{avoids, avoids_by, pieces_more, pieces_one, cut_there}
 use Rattle.spec_messages.specs.Message.{wanted, text_at, text_in, all_read, onto_read, any_text}
 use Rattle.spec_messages.specs.Policy.{Location, uri_param, header, body, multipart_binary, Sort, ueid, location, key_material, authentication_material, authorization_token, other, nonsensitive, Element, Pattern, fixed, variable, Mapping, Policy, same_sort}
-use Rattle.spec_messages.specs.PolicyDocument.{location_text, location_of, sort_text, all_sorts, sort_of, is_name_byte, is_variable_name, braced, fixed_of, pattern_of, variable_names, are_distinct, if_distinct, patterns_in, without_root, template_of, chosen, if_there, if_passes, name_of, name_in, truth_of, told, grant_of, grants_of, Target, element_of, each_read, listed, mapping_of, mappings_from, most_mappings, if_few, in_order, listed_sorts, sorts_of, sorts_in, policy_of, pattern_text, template_text, grants_tree, element_tree, list_of, mapping_tree, sort_tree, ReadsBack}
+use Rattle.spec_messages.specs.PolicyDocument.{location_text, location_of, sort_text, all_sorts, sort_of, is_name_byte, is_variable_name, braced, fixed_of, pattern_of, variable_names, are_distinct, if_distinct, patterns_in, without_root, template_of, chosen, if_there, if_passes, name_of, name_in, truth_of, told, grant_of, grants_of, Target, element_of, each_read, mapping_of, mappings_from, most_mappings, if_few, in_order, listed_sorts, sorts_of, sorts_in, policy_of, pattern_text, template_text, grants_tree, element_tree, list_of, mapping_tree, sort_tree, ReadsBack}
 use Rattle.spec_messages.proofs.PieceLemmas.{cut_pieces, pieces_after}
 use Rattle.spec_messages.proofs.WholeRead.{lower_passes}
 
@@ -337,7 +337,7 @@ mapping_back k j (items ts) g h = cc
 mapping_back k j (members ms) g h =
     let p = bind_ok (wanted (chosen template_of (get_member (codes "apiSignature") ms)) k) _ g h in
     let m = bind_ok (wanted (text_at is_method (codes "apiMethod") ms) k) _ g p.2 in
-    let l = bind_ok (wanted (listed (get_member (codes "IeList") ms)) k) _ g m.2 in
+    let l = bind_ok (wanted (items_in (get_member (codes "IeList") ms)) k) _ g m.2 in
     let e = bind_ok (each_read (element_of k) l.0) _ g l.2 in
     let same : record { method = m.0; patterns = p.0; elements = e.0 } ≡ g = cc in
     let tp = template_again (get_member (codes "apiSignature") ms) p.0 (wanted_ok _ k p.0 p.1) in
@@ -428,11 +428,11 @@ policy_few (whole z) p h = cc
 policy_few (words s) p h = cc
 policy_few (items ts) p h = cc
 policy_few (members ms) p h =
-    let l = bind_ok (wanted (if_few (listed (get_member (codes "apiIeMappingList") ms))) 0) _ p h in
+    let l = bind_ok (wanted (if_few (items_in (get_member (codes "apiIeMappingList") ms))) 0) _ p h in
     let s = bind_ok (wanted (sorts_in (get_member (codes "dataTypeEncPolicy") ms)) 0) _ p l.2 in
     let g = bind_ok (mappings_from 1 l.0) _ p s.2 in
     let same : record { mappings = g.0; sorts = s.0 } ≡ p = cc in
-    let few : length l.0 ≤ most_mappings = leb-true (length l.0) most_mappings (few_by (listed (get_member (codes "apiIeMappingList") ms)) l.0 (wanted_ok _ 0 l.0 l.1)) in
+    let few : length l.0 ≤ most_mappings = leb-true (length l.0) most_mappings (few_by (items_in (get_member (codes "apiIeMappingList") ms)) l.0 (wanted_ok _ 0 l.0 l.1)) in
     let many : length g.0 ≡ length l.0 = mappings_many 1 l.0 g.0 g.1 in
     subst (λ (x : Policy). length x.mappings ≤ most_mappings) same (subst (λ n. n ≤ most_mappings) (sym many) few)
 
@@ -444,11 +444,11 @@ policy_back (whole z) p h = cc
 policy_back (words s) p h = cc
 policy_back (items ts) p h = cc
 policy_back (members ms) p h =
-    let l = bind_ok (wanted (if_few (listed (get_member (codes "apiIeMappingList") ms))) 0) _ p h in
+    let l = bind_ok (wanted (if_few (items_in (get_member (codes "apiIeMappingList") ms))) 0) _ p h in
     let s = bind_ok (wanted (sorts_in (get_member (codes "dataTypeEncPolicy") ms)) 0) _ p l.2 in
     let g = bind_ok (mappings_from 1 l.0) _ p s.2 in
     let same : record { mappings = g.0; sorts = s.0 } ≡ p = cc in
-    let few : nat_le (length l.0) most_mappings ≡ true = few_by (listed (get_member (codes "apiIeMappingList") ms)) l.0 (wanted_ok _ 0 l.0 l.1) in
+    let few : nat_le (length l.0) most_mappings ≡ true = few_by (items_in (get_member (codes "apiIeMappingList") ms)) l.0 (wanted_ok _ 0 l.0 l.1) in
     let many : nat_le (length (map mapping_tree g.0)) most_mappings ≡ true = ap (λ n. nat_le n most_mappings) (length-map g.0 mapping_tree ∙ mappings_many 1 l.0 g.0 g.1) ∙ few in
     let tl = list-trees (map mapping_tree g.0) in
     let ts = sorts_back (get_member (codes "dataTypeEncPolicy") ms) s.0 (wanted_ok _ 0 s.0 s.1) in

@@ -1,7 +1,8 @@
 -- A block: a message as a document whose body is a list of items, each with a pointer and a value (after the integrity-protected block of TS 33.501 clause 13.2.4.3.1; names, forms and limits are this project's own).
 use Rattle.std.specs.Prelude.{◌≡◌, ℕ, suc, ◌≤◌, max, List, [], ◌∷◌, ◌++◌, map, length, Bool, true, false, not, ◌&&◌, ◌||◌, nat_le, Option, Some, None, option_map, Result, Ok, Err, IsTrue, IsOk, is_some, if◌then◌else◌, bytes_eq, codes}
 use Rattle.std.specs.List.{list_any}
-use Rattle.spec_documents.specs.Tree.{Tree, null, truth, whole, words, items, members, Trees, no_items, item, Members, no_members, member, get_member, put_member, tree_list, is_ordered}
+use Rattle.std.specs.Option.{option_and_then}
+use Rattle.spec_documents.specs.Tree.{Tree, null, truth, whole, words, items, members, Trees, no_items, item, Members, no_members, member, get_member, put_member, items_in, is_ordered}
 use Rattle.spec_documents.specs.Place.{Pointer, at, is_prefix, is_beneath, pointer_text, read_pointer}
 use Rattle.spec_documents.specs.Text.{is_segment, is_query_value, is_header_value, is_identity, is_id, index_text, joined, lower}
 use Rattle.spec_documents.specs.Hole.{mark, has_mark, hole, hole_text, hole_index, hole_members, text_hole, places}
@@ -129,12 +130,7 @@ item_of (members ms) = pointed (text_at any_text (codes "iePath") ms) (get_membe
 
 abbrev pub items_of : Option Tree → Option Items
 items_of None = Some []
-items_of (Some null) = None
-items_of (Some (truth b)) = None
-items_of (Some (whole z)) = None
-items_of (Some (words s)) = None
-items_of (Some (items ts)) = all_read item_of (tree_list ts)
-items_of (Some (members ms)) = None
+items_of (Some t) = option_and_then (all_read item_of) (items_in (Some t))
 
 abbrev pub members_of : Tree → Members
 members_of null = no_members

@@ -1,7 +1,8 @@
 -- Why a tree is no block with n values: the first fault, in the order of the checks (this project's own).
-use Rattle.std.specs.Prelude.{ℕ, suc, ◌+◌, max, List, [], ◌∷◌, length, Bool, true, false, not, ◌&&◌, ◌||◌, nat_lt, Option, Some, None, Result, Ok, Err, is_some, is_ok, if◌then◌else◌, bytes_eq, codes}
+use Rattle.std.specs.Prelude.{ℕ, suc, ◌+◌, max, List, [], ◌∷◌, length, Bool, true, false, not, ◌&&◌, ◌||◌, nat_lt, Option, Some, None, unwrap_or, Result, Ok, Err, is_some, is_ok, if◌then◌else◌, bytes_eq, codes}
 use Rattle.std.specs.List.{list_any, list_all}
-use Rattle.spec_documents.specs.Tree.{Tree, null, truth, whole, words, items, members, Members, no_members, member, get_member, tree_list, same_tree}
+use Rattle.std.specs.Option.{option_map_or}
+use Rattle.spec_documents.specs.Tree.{Tree, null, truth, whole, words, items, members, Members, no_members, member, get_member, items_in, same_tree}
 use Rattle.spec_documents.specs.Place.{Pointer, is_prefix, read_pointer}
 use Rattle.spec_documents.specs.Text.{is_header_name, is_header_value}
 use Rattle.spec_documents.specs.Hole.{mark, is_marked, HoleFault, places}
@@ -82,21 +83,10 @@ is_item_node t = let ms = members_of t in same_tree t (item_tree (text_of (codes
 
 abbrev pub is_list_of : (Tree → Bool) → Option Tree → Bool
 is_list_of ok None = true
-is_list_of ok (Some null) = false
-is_list_of ok (Some (truth b)) = false
-is_list_of ok (Some (whole z)) = false
-is_list_of ok (Some (words s)) = false
-is_list_of ok (Some (items ts)) = list_all ok (tree_list ts)
-is_list_of ok (Some (members ms)) = false
+is_list_of ok (Some t) = option_map_or (list_all ok) (items_in (Some t)) false
 
 abbrev pub list_of : Option Tree → List Tree
-list_of None = []
-list_of (Some null) = []
-list_of (Some (truth b)) = []
-list_of (Some (whole z)) = []
-list_of (Some (words s)) = []
-list_of (Some (items ts)) = tree_list ts
-list_of (Some (members ms)) = []
+list_of o = unwrap_or (items_in o) []
 
 abbrev pub is_known : List ℕ → Bool
 is_known k = list_any (bytes_eq k) (codes "headers" ∷ codes "metaData" ∷ codes "payload" ∷ codes "requestLine" ∷ codes "statusLine" ∷ [])

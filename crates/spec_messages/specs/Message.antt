@@ -1,7 +1,8 @@
 -- HTTP messages, in the parts that a sealed message keeps apart, and their JSON documents (after the encapsulated message of TS 29.573 and TS 33.501 clause 13.2.4.3.1; member names and grammars are this project's profile).
 use Rattle.std.specs.Prelude.{ℕ, List, [], ◌∷◌, length, Bool, true, false, ◌&&◌, ◌==◌, nat_lt, Option, Some, None, option_map, Result, Ok, Err, if◌then◌else◌, bytes_eq, codes}
 use Rattle.std.specs.List.{list_all}
-use Rattle.spec_documents.specs.Tree.{Tree, null, truth, whole, words, items, members, Members, get_member, tree_list, depth}
+use Rattle.std.specs.Option.{option_and_then}
+use Rattle.spec_documents.specs.Tree.{Tree, null, truth, whole, words, items, members, Members, get_member, items_in, depth}
 use Rattle.spec_documents.specs.Place.{◌>>=◌}
 use Rattle.spec_documents.specs.Text.{is_segment, is_query_name, is_query_value, is_header_name, is_header_value, is_method, is_scheme, is_authority, is_version, is_within, lower, status_of, pieces, cut_at}
 
@@ -215,12 +216,7 @@ header_of parts (members ms) = header_from (text_at is_header_name (codes "heade
 
 abbrev pub headers_of : Parts → Option Tree → Option (List Header)
 headers_of parts None = Some []
-headers_of parts (Some null) = None
-headers_of parts (Some (truth b)) = None
-headers_of parts (Some (whole z)) = None
-headers_of parts (Some (words s)) = None
-headers_of parts (Some (items ts)) = all_read (header_of parts) (tree_list ts)
-headers_of parts (Some (members ms)) = None
+headers_of parts (Some t) = option_and_then (all_read (header_of parts)) (items_in (Some t))
 
 -- in a plain document each part is a text of its grammar
 abbrev pub plain_parts : Parts

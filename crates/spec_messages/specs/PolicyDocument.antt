@@ -1,7 +1,7 @@
 -- The document of a policy (the data types of TS 29.573 clause 6.1.5 in outline; forms and limits own).
 use Rattle.std.specs.Prelude.{◌≡◌, ℕ, suc, List, [], ◌∷◌, ◌++◌, map, filter, find, drop, length, Bool, true, not, ◌&&◌, ◌||◌, ◌==◌, nat_le, nat_lt, Option, Some, None, option_map, is_ok, Result, Ok, Err, if◌then◌else◌, bytes_eq, codes}
 use Rattle.std.specs.List.{list_any, list_all}
-use Rattle.spec_documents.specs.Tree.{Tree, null, truth, whole, words, items, members, trees, tree_list, Members, no_members, get_member, put_member}
+use Rattle.spec_documents.specs.Tree.{Tree, null, truth, whole, words, items, members, trees, tree_list, items_in, Members, no_members, get_member, put_member}
 use Rattle.spec_documents.specs.Place.{◌>>=◌, read_pointer}
 use Rattle.spec_documents.specs.Fields.{Field, fields, field_list}
 use Rattle.spec_documents.specs.Text.{is_alphanumeric, is_one_of, is_segment, is_query_name, is_header_name, is_method, is_identity, lower, begins, pieces, cut_at}
@@ -177,20 +177,11 @@ abbrev pub each_read : {A B E : Type 0} → (A → Result B E) → List A → Re
 each_read f [] = Ok []
 each_read f (x ∷ xs) = f x >>= λ y. each_read f xs >>= λ ys. Ok (y ∷ ys)
 
-abbrev pub listed : Option Tree → Option (List Tree)
-listed None = None
-listed (Some null) = None
-listed (Some (truth b)) = None
-listed (Some (whole z)) = None
-listed (Some (words s)) = None
-listed (Some (items ts)) = Some (tree_list ts)
-listed (Some (members ms)) = None
-
 abbrev pub mapping_with : ℕ → Members → Result Mapping ℕ
 mapping_with k ms =
     wanted (chosen template_of (get_member (codes "apiSignature") ms)) k >>= λ ps.
     wanted (text_at is_method (codes "apiMethod") ms) k >>= λ m.
-    wanted (listed (get_member (codes "IeList") ms)) k >>= λ ts.
+    wanted (items_in (get_member (codes "IeList") ms)) k >>= λ ts.
     each_read (element_of k) ts >>= λ es.
     Ok (record { method = m; patterns = ps; elements = es })
 
@@ -237,7 +228,7 @@ sorts_in (Some t) = option_map in_order (sorts_of t)
 
 abbrev pub policy_with : Members → Result Policy ℕ
 policy_with ms =
-    wanted (if_few (listed (get_member (codes "apiIeMappingList") ms))) 0 >>= λ ts.
+    wanted (if_few (items_in (get_member (codes "apiIeMappingList") ms))) 0 >>= λ ts.
     wanted (sorts_in (get_member (codes "dataTypeEncPolicy") ms)) 0 >>= λ ss.
     mappings_from 1 ts >>= λ gs.
     Ok (record { mappings = gs; sorts = ss })

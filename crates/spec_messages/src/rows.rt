@@ -11,6 +11,14 @@ ghost use Rattle.spec_documents.specs.Hole.{fill_tree, hole, HolePlace, places};
 ghost use Rattle.spec_messages.specs.Entry.{op_result};
 ghost use Rattle.spec_documents.specs.Examples.{number, list, map_of};
 ghost use Rattle.spec_messages.specs.Rows.{message_three, policy_one, meta_one};
+ghost use Rattle.spec_messages.specs.Message.{message_of, request_line, status_line};
+
+/// Of two lines the status line is the wrong one, unless the request line is no object.
+pub fn line_rows()
+    ensures number { message_of (map_of ((codes "requestLine", number 5) ∷ (codes "statusLine", words (codes "200")) ∷ [])) ≡ Err request_line }
+    ensures object { message_of (map_of ((codes "requestLine", map_of []) ∷ (codes "statusLine", words (codes "200")) ∷ [])) ≡ Err status_line }
+    ensures response { message_of (map_of ((codes "body", null) ∷ (codes "statusLine", words (codes "201")) ∷ [])) ≡ Ok (record { head = response 201; headers = []; body = Some null }) }
+{}
 
 ghost use Rattle.spec_messages.specs.Message.{message_of, request_line, status_line};
 

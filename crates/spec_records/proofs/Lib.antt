@@ -1,3 +1,4 @@
 pub mod RecordLemmas
 pub mod RecordReading
+pub mod NameLemmas
 pub mod RecordDepth

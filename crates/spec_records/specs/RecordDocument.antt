@@ -3,7 +3,7 @@ use Rattle.std.specs.Prelude.{◌≡◌, ℕ, ◌<◌, ◌^◌, pos, List, [], �
 use Rattle.std.specs.List.{list_all}
 use Rattle.std.specs.Option.{option_or}
 use Rattle.hex.specs.Hex.{encode_lower, decode_sized, IsBytes}
-use Rattle.spec_documents.specs.Tree.{Tree, null, truth, whole, words, items, members, Members, no_members, get_member, put_member, object}
+use Rattle.spec_documents.specs.Tree.{Tree, null, truth, whole, words, items, members, Members, no_members, items_in, get_member, put_member, object}
 use Rattle.spec_documents.specs.Fields.{field_list}
 use Rattle.spec_documents.specs.Place.{◌>>=◌}
 use Rattle.spec_documents.specs.Hole.{natural}
@@ -11,7 +11,7 @@ use Rattle.spec_documents.specs.Ids.{id_of, id_text, is_plmn, plmn_of}
 use Rattle.spec_documents.specs.Text.{is_identity, is_node_name}
 use Rattle.spec_messages.specs.Message.{Kind, of_request, of_response, wanted, text_at, text_if, any_text, all_read}
 use Rattle.spec_messages.specs.Policy.{Policy, result_ok}
-use Rattle.spec_messages.specs.PolicyDocument.{chosen, listed, list_of, policy_of, policy_tree, ReadsBack}
+use Rattle.spec_messages.specs.PolicyDocument.{chosen, list_of, policy_of, policy_tree, ReadsBack}
 use Rattle.spec_records.specs.Records.{Suite, A128Gcm, A256Gcm, OneKey, KeySet, Context, Record, Offered, Opened, Keyed, Sent, Delivered, Closed, node_of}
 
 -- the document is of no record
@@ -75,7 +75,7 @@ abbrev pub identities : List Tree → Option (List (List ℕ))
 identities ts = if nat_le (length ts) 1 then all_read (text_if is_identity) ts else None
 
 abbrev pub ipx_in : Option Tree → Option (List (List ℕ))
-ipx_in o = option_and_then identities (listed o)
+ipx_in o = option_and_then identities (items_in o)
 
 -- ---- keys
 

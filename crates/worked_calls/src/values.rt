@@ -1,11 +1,11 @@
-// The calls of `n32_values` and `doc_lengths`.
+// The calls of `n32_values`.
 use crate::args::Args;
 use crate::given::Given;
 use crate::nodes::{count_node, fault_node, number_node, pair_node, text_node};
-use doc_lengths::text_length;
 use n32_values::{
     B64Fault, Bytes, Doc, DocFault, Node, PlmnId, Text, Whole, base64url_text, copy_doc, depth,
     doc_text, hex64_text, is_same_doc, read_base64url, read_doc, read_hex64, read_plmn,
+    text_length,
 };
 use std::alloc::Global;
 

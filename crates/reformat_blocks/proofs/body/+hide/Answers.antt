@@ -25,7 +25,7 @@ hidden_list-loop-i-preserved t c =
     let hidden : c.hidden_node.new.values ≡ c.loop-i.values ++ stood (outermost test (q ++ token ∷ []) node) = c.in_ok-hidden_node.ensures.values ∙ ap (λ p. c.loop-i.values ++ stood (outermost test p node)) pushed in
     let is : tree_of c.in_ok-hidden_node.field-0 ≡ hide test (q ++ token ∷ []) (length c.loop-i.values) node = c.in_ok-hidden_node.ensures.node ∙ ap (λ p. hide test p (length c.loop-i.values) node) pushed in record {
       deep = c.loop-i.invariant.deep;
-      pointer = c.cut_back.ensures ∙ ap₂ take c.loop-i.invariant.deep (c.in_ok-hidden_node.ensures.pointer ∙ pushed) ∙ take_at q (token ∷ []) (length q) refl;
+      pointer = c.truncate.ensures ∙ ap₂ take c.loop-i.invariant.deep (c.in_ok-hidden_node.ensures.pointer ∙ pushed) ∙ take_at q (token ∷ []) (length q) refl;
       list = list_step test q c.args.list.now c.loop-i.i node (tree_of c.in_ok-hidden_node.field-0) c.loop-i.values c.hidden_node.new.values c.loop-i.hidden c.push.new.self _ c.item.ensures hidden is c.in_ok-push.ensures.ok c.loop-i.invariant.list;
       values = list_stood test q c.args.list.now c.loop-i.i node c.loop-i.values c.hidden_node.new.values _ c.item.ensures hidden c.loop-i.invariant.values;
     }
@@ -68,7 +68,7 @@ hidden_map-loop-i-preserved t c =
     let hidden : c.hidden_node.new.values ≡ c.loop-i.values ++ stood (outermost test (q ++ name ∷ []) node) = c.in_ok-node.ensures.values ∙ ap (λ p. c.loop-i.values ++ stood (outermost test p node)) pushed in
     let is : tree_of c.in_ok-node.node ≡ hide test (q ++ name ∷ []) (length c.loop-i.values) node = c.in_ok-node.ensures.node ∙ ap (λ p. hide test p (length c.loop-i.values) node) pushed in record {
       deep = c.loop-i.invariant.deep;
-      pointer = c.cut_back.ensures ∙ ap₂ take c.loop-i.invariant.deep (c.in_ok-node.ensures.pointer ∙ pushed) ∙ take_at q (name ∷ []) (length q) refl;
+      pointer = c.truncate.ensures ∙ ap₂ take c.loop-i.invariant.deep (c.in_ok-node.ensures.pointer ∙ pushed) ∙ take_at q (name ∷ []) (length q) refl;
       map = map_step test q (field_list c.args.map.now) c.loop-i.i name _ node _ c.loop-i.values c.hidden_node.new.values (field_list c.loop-i.hidden) (field_list c.push_last.new.self) _ c.entry.ensures hidden c.in_ok-copy.ensures is c.in_ok-push_last.ensures.ok c.loop-i.invariant.map;
       values = map_stood test q (field_list c.args.map.now) c.loop-i.i name node c.loop-i.values c.hidden_node.new.values _ c.entry.ensures hidden c.loop-i.invariant.values;
     }

@@ -38,7 +38,7 @@ push_members-loop-i-preserved t c =
     let added : c.push_items.new.items ≡ c.loop-i.items ++ item_trees (leaves (q ++ name ∷ []) (hide test (q ++ name ∷ []) (length c.loop-i.values) node))
     = c.in_ok-push_items.ensures.items ∙ ap (λ p. c.loop-i.items ++ item_trees (leaves p (hide test p (length c.loop-i.values) node))) pushed in record {
       deep = c.loop-i.invariant.deep;
-      pointer = c.cut_back.ensures ∙ ap₂ take c.loop-i.invariant.deep (c.in_ok-push_items.ensures.pointer ∙ pushed) ∙ take_at q (name ∷ []) (length q) refl;
+      pointer = c.truncate.ensures ∙ ap₂ take c.loop-i.invariant.deep (c.in_ok-push_items.ensures.pointer ∙ pushed) ∙ take_at q (name ∷ []) (length q) refl;
       items = items_step test q (field_list c.args.map.now) c.loop-i.i name node c.loop-i.values c.push_items.new.values c.loop-i.items c.push_items.new.items _ c.entry.ensures hidden added c.loop-i.invariant.items;
       values = map_stood test q (field_list c.args.map.now) c.loop-i.i name node c.loop-i.values c.push_items.new.values _ c.entry.ensures hidden c.loop-i.invariant.values;
     }

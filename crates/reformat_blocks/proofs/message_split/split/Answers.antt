@@ -14,19 +14,19 @@ use Rattle.reformat_blocks.proofs.message_split.split.Goals as goal
 pub returns-then-len-gt256-clause-outcome : goal.returns-then-len-gt256-clause-outcome
 returns-then-len-gt256-clause-outcome c =
     let m = message_view c.args.message.now in
-    let count : length c.headers_of.result.now ≡ length m.headers = sym (length-map header_view c.headers_of.result.now) ∙ ap length c.headers_of.ensures in
+    let count : length c.headers.result.now ≡ length m.headers = sym (length-map header_view c.headers.result.now) ∙ ap length c.headers.ensures in
     over_headers c.args.policy.now c.args.mapping m (meta_view c.args.meta) (omega (arith, count, c.len.ensures, c.if-len-gt256.true))
 
 pub returns-then-sent-gt4096-clause-outcome : goal.returns-then-sent-gt4096-clause-outcome
 returns-then-sent-gt4096-clause-outcome c =
     let m = message_view c.args.message.now in
-    let count : length c.headers_of.result.now ≡ length m.headers = sym (length-map header_view c.headers_of.result.now) ∙ ap length c.headers_of.ensures in
+    let count : length c.headers.result.now ≡ length m.headers = sym (length-map header_view c.headers.result.now) ∙ ap length c.headers.ensures in
     over_items c.args.policy.now c.args.mapping m (meta_view c.args.meta) (omega (arith, count, c.len.ensures, c.if-len-gt256.false)) (omega (arith, c.in_ok-sent.ensures.items, c.if-sent-gt4096.true))
 
 pub returns-then-len-gt1024-clause-outcome : goal.returns-then-len-gt1024-clause-outcome
 returns-then-len-gt1024-clause-outcome c =
     let m = message_view c.args.message.now in
-    let count : length c.headers_of.result.now ≡ length m.headers = sym (length-map header_view c.headers_of.result.now) ∙ ap length c.headers_of.ensures in
+    let count : length c.headers.result.now ≡ length m.headers = sym (length-map header_view c.headers.result.now) ∙ ap length c.headers.ensures in
     let hidden : c.len-2.result ≡ length (values c.args.policy.now c.args.mapping m) = c.len-2.ensures ∙ ap length c.in_ok-sent.ensures.values in
     over_values c.args.policy.now c.args.mapping m (meta_view c.args.meta) (omega (arith, count, c.len.ensures, c.if-len-gt256.false)) (omega (arith, c.in_ok-sent.ensures.items, c.if-sent-gt4096.false))
     (omega (arith, hidden, c.if-len-gt1024.true))
@@ -34,7 +34,7 @@ returns-then-len-gt1024-clause-outcome c =
 pub returns-then-text_length-gt4194304-clause-outcome : goal.returns-then-text_length-gt4194304-clause-outcome
 returns-then-text_length-gt4194304-clause-outcome c =
     let m = message_view c.args.message.now in
-    let count : length c.headers_of.result.now ≡ length m.headers = sym (length-map header_view c.headers_of.result.now) ∙ ap length c.headers_of.ensures in
+    let count : length c.headers.result.now ≡ length m.headers = sym (length-map header_view c.headers.result.now) ∙ ap length c.headers.ensures in
     let hidden : c.len-2.result ≡ length (values c.args.policy.now c.args.mapping m) = c.len-2.ensures ∙ ap length c.in_ok-sent.ensures.values in
     let text = ap (λ t. length (compact_text t)) c.in_ok-sent.ensures.block in
     over_text c.args.policy.now c.args.mapping m (meta_view c.args.meta) (omega (arith, count, c.len.ensures, c.if-len-gt256.false)) (omega (arith, c.in_ok-sent.ensures.items, c.if-sent-gt4096.false))
@@ -51,7 +51,7 @@ faultless c =
     let k = c.args.mapping in
     let m = message_view c.args.message.now in
     let meta = meta_view c.args.meta in
-    let count : length c.headers_of.result.now ≡ length m.headers = sym (length-map header_view c.headers_of.result.now) ∙ ap length c.headers_of.ensures in
+    let count : length c.headers.result.now ≡ length m.headers = sym (length-map header_view c.headers.result.now) ∙ ap length c.headers.ensures in
     let hidden : c.len-2.result ≡ length (values pol k m) = c.len-2.ensures ∙ ap length c.in_ok-sent.ensures.values in
     let holes : c.len-3.result ≡ length (values pol k m) = c.len-3.ensures ∙ ap length c.in_ok-sent.ensures.values in
     let limits = in_all pol k m meta (omega (arith, count, c.len.ensures, c.if-len-gt256.false)) (omega (arith, c.in_ok-sent.ensures.items, c.if-sent-gt4096.false)) (omega (arith, hidden, c.if-len-gt1024.false)) in
@@ -66,7 +66,7 @@ returns-clause-outcome c =
     let pol = c.args.policy.now in
     let k = c.args.mapping in
     let m = message_view c.args.message.now in
-    let count : length c.headers_of.result.now ≡ length m.headers = sym (length-map header_view c.headers_of.result.now) ∙ ap length c.headers_of.ensures in
+    let count : length c.headers.result.now ≡ length m.headers = sym (length-map header_view c.headers.result.now) ∙ ap length c.headers.ensures in
     let hidden : c.len-2.result ≡ length (values pol k m) = c.len-2.ensures ∙ ap length c.in_ok-sent.ensures.values in
     let text = ap (λ t. length (compact_text t)) c.in_ok-sent.ensures.block in
     let block : c.of_doc.result ≡ sent_block pol k m (meta_view c.args.meta) = c.of_doc.ensures.value ∙ c.from_shallow.ensures ∙ c.in_ok-sent.ensures.block in

@@ -1,4 +1,4 @@
-use Rattle.std.proofs.Common.{◌≡◌, sym}
+use Rattle.std.proofs.Common.{◌≡◌}
 use Rattle.n32_values.specs.View.{tree_of}
 use Rattle.spec_messages.specs.Message.{kind_of, of_request, of_response}
 use Rattle.http_message.specs.Reading.{message_view}

@@ -23,7 +23,7 @@ clear_item-loop-i-preserved t c =
     let pushed : c.push_name.new.pointer ≡ q ++ token ∷ [] = c.in_ok-push_name.ensures ∙ ap (λ p. p ++ c.as_str-token.result.now ∷ []) c.loop-i.invariant.pointer ∙ ap (λ n. q ++ n ∷ []) named in
     let beside : option_map (λ n. tree_of n.now) c.child-beside.result ≡ child_of token holed = c.child-beside.ensures ∙ ap (λ x. child_of x holed) named in record {
       deep = c.loop-i.invariant.deep;
-      pointer = c.cut_back.ensures ∙ ap₂ take c.loop-i.invariant.deep (c.in_ok-found.ensures.pointer ∙ pushed) ∙ take_at q (token ∷ []) (length q) refl;
+      pointer = c.truncate.ensures ∙ ap₂ take c.loop-i.invariant.deep (c.in_ok-found.ensures.pointer ∙ pushed) ∙ take_at q (token ∷ []) (length q) refl;
       place = item_none (node_test c.args.body.now) holed _ q _ c.args.list.now c.loop-i.i (tree_of c.item.result.now) _ c.item.ensures beside pushed c.loop-i.invariant.place (sym c.in_default.is ∙ c.in_ok-found.ensures.place);
     }
 
@@ -57,7 +57,7 @@ clear_member-loop-i-preserved t c =
     let pushed : c.push_name.new.pointer ≡ q ++ token ∷ [] = c.in_ok-push_name.ensures ∙ ap (λ p. p ++ c.as_str-token.result.now ∷ []) c.loop-i.invariant.pointer ∙ ap (λ n. q ++ n ∷ []) named in
     let beside : option_map (λ n. tree_of n.now) c.child-beside.result ≡ child_of token holed = c.child-beside.ensures ∙ ap (λ x. child_of x holed) named in record {
       deep = c.loop-i.invariant.deep;
-      pointer = c.cut_back.ensures ∙ ap₂ take c.loop-i.invariant.deep (c.in_ok-found.ensures.pointer ∙ pushed) ∙ take_at q (token ∷ []) (length q) refl;
+      pointer = c.truncate.ensures ∙ ap₂ take c.loop-i.invariant.deep (c.in_ok-found.ensures.pointer ∙ pushed) ∙ take_at q (token ∷ []) (length q) refl;
       place = member_none (node_test c.args.body.now) holed _ q _ (field_list c.args.map.now) c.loop-i.i token (tree_of c.entry.result.1.now) _ c.entry.ensures beside pushed c.loop-i.invariant.place (sym c.in_default.is ∙ c.in_ok-found.ensures.place);
     }
 

@@ -1,6 +1,6 @@
 use Rattle.std.proofs.Common.{◌≡◌, ◌+◌, ◌≤◌, ◌^◌, ◌-◌, min, length, drop}
 use Rattle.json.specs.Print.{escape}
-use Rattle.doc_lengths.proofs.length.quoted_length.Given as goal
+use Rattle.n32_values.proofs.length.quoted_length.Given as goal
 
 abbrev pub invariant-loop-i : goal.invariant-loop-i
 invariant-loop-i l = record {

@@ -1,14 +1,16 @@
+// How long the compact text of a document is, known without printing it.
 ghost use Rattle.std.specs.Prelude.{◌≡◌, ◌+◌, ◌-◌, ◌^◌, ◌≤◌, min, length, nat_lt};
 ghost use Rattle.std.specs.Fmt.{decimal, signed_decimal};
 ghost use Rattle.json.specs.Print.{quoted, escape_byte};
 ghost use Rattle.spec_documents.specs.Compact.{compact_text, comma_if};
 ghost use Rattle.spec_documents.specs.Tree.{items, members, trees};
 ghost use Rattle.n32_values.specs.View.{tree_of};
-ghost use Rattle.doc_lengths.specs.Costs as spec;
+ghost use Rattle.n32_values.specs.Costs as spec;
 
-use n32_values::{Node, NodeList, NodeMap, Whole};
+use crate::node::{Node, NodeList, NodeMap};
+use crate::whole::Whole;
 
-/// How many bytes the compact text of a node has, as `n32_values::doc_text` prints it. A greater
+/// How many bytes the compact text of a node has, as `doc_text` prints it. A greater
 /// number than a `u64` holds is the greatest. It goes once over the node and takes no memory.
 #[cycle(length)]
 pub fn text_length(node: &Node) -> u64

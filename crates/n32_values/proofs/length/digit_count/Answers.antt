@@ -1,6 +1,6 @@
 use Rattle.std.proofs.Common.{◌≡◌, ◌+◌, ◌-◌, ◌/◌, ap, ◌∙◌, arith}
-use Rattle.doc_lengths.proofs.Sums.{digit_number, decimal_length, last_digit, more_digits, no_digits}
-use Rattle.doc_lengths.proofs.length.digit_count.Goals as goal
+use Rattle.n32_values.proofs.Lengths.{digit_number, decimal_length, last_digit, more_digits, no_digits}
+use Rattle.n32_values.proofs.length.digit_count.Goals as goal
 
 pub returns-then-left-lt10-clause-value : goal.returns-then-left-lt10-clause-value
 returns-then-left-lt10-clause-value c = omega (arith, last_digit (64 - c.digits.turn) c.digits.left (omega arith) (omega arith), c.digits.invariant, decimal_length c.args.number)

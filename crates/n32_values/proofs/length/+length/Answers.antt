@@ -5,8 +5,8 @@ use Rattle.spec_documents.proofs.FieldLemmas.{fields-field_list}
 use Rattle.json.specs.Print.{quoted}
 use Rattle.n32_values.specs.View.{tree_of}
 use Rattle.n32_values.proofs.Trees.{depth_within, member_depth_within}
-use Rattle.doc_lengths.proofs.Sums.{items_step, members_step}
-use Rattle.doc_lengths.proofs.length.+length.Goals as goal
+use Rattle.n32_values.proofs.Lengths.{items_step, members_step}
+use Rattle.n32_values.proofs.length.+length.Goals as goal
 
 pub items_length-text_length-requires : goal.items_length-text_length-requires
 items_length-text_length-requires t c = (omega (arith, depth_within c.args.list.now c.loop-i.i (tree_of c.item.result.now) c.item.ensures, c.decreases), tt)

@@ -1,7 +1,7 @@
 use Rattle.std.proofs.Common.{◌+◌, ◌-◌, ◌^◌, min, ap, ◌∙◌, arith}
 use Rattle.std.proofs.lemmas.Option.{slice_get-get_or}
-use Rattle.doc_lengths.proofs.Sums.{escape_step}
-use Rattle.doc_lengths.proofs.length.quoted_length.Goals as goal
+use Rattle.n32_values.proofs.Lengths.{escape_step}
+use Rattle.n32_values.proofs.length.quoted_length.Goals as goal
 
 pub loop-i-preserved : goal.loop-i-preserved
 loop-i-preserved c = record {

@@ -3,7 +3,7 @@ use Rattle.spec_documents.specs.Tree.{trees, depth, items_depth, members_depth}
 use Rattle.spec_documents.specs.Fields.{fields, field_list}
 use Rattle.spec_documents.specs.Compact.{items_text, members_text}
 use Rattle.n32_values.specs.View.{tree_of}
-use Rattle.doc_lengths.proofs.length.+length.Given as goal
+use Rattle.n32_values.proofs.length.+length.Given as goal
 
 abbrev pub decreases-text_length : goal.decreases-text_length
 decreases-text_length l = 2 * depth (tree_of l.node.now)

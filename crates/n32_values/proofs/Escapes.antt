@@ -2,7 +2,7 @@
 use Rattle.std.proofs.Common.{◌≡◌, ℕ, zero, suc, ◌<◌, Bool, true, ◌&&◌, ◌==◌, length, refl, arith, inl, inr, subst}
 use Rattle.std.proofs.lemmas.Bool.{and_parts, eqb-true, cases_lt}
 use Rattle.json.specs.Print.{escape_byte}
-use Rattle.doc_lengths.specs.Costs.{byte_cost}
+use Rattle.n32_values.specs.Costs.{byte_cost}
 
 -- the test holds of each number below n
 unfoldable all_below : ℕ → (ℕ → Bool) → Bool
