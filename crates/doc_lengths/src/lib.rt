@@ -4,6 +4,3 @@
 mod length;
 
 pub use length::text_length;
-
-#[cfg(test)]
-mod tests;

@@ -13,6 +13,3 @@ pub use document::{WireDoc, WireMember, WireRead, entries, read_wire_doc};
 pub use laws::documents_are_received;
 pub use rows::route_rows;
 pub use write::wire_doc;
-
-#[cfg(test)]
-mod tests;

@@ -7,6 +7,3 @@ mod write;
 
 pub use read::{ValuesRead, read_values};
 pub use write::values_text;
-
-#[cfg(test)]
-mod tests;
