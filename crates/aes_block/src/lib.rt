@@ -105,6 +105,3 @@ impl BlockKey for Key256 {
         encrypted(&self.words, 14, block)
     }
 }
-
-#[cfg(test)]
-mod tests;

@@ -14,6 +14,3 @@ mod paths;
 
 pub use fault::{BlockWhy, LimitName, block_fault};
 pub use meta::{Meta, MetaRead, is_meta, meta_node, read_meta};
-
-#[cfg(test)]
-mod tests;

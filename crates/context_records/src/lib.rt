@@ -15,6 +15,3 @@ pub use context::{Context, KeySet, OneKey};
 pub use read::{RecordRead, read_record};
 pub use record::Record;
 pub use write::record_text;
-
-#[cfg(test)]
-mod tests;

@@ -12,6 +12,3 @@ mod walk;
 pub use filling::{FillFault, fill};
 pub use holes::{Holes, HolesFault, Place, places};
 pub use spelling::has_hole_spelling;
-
-#[cfg(test)]
-mod tests;

@@ -76,6 +76,3 @@ fn lengths(head: &[u8], tail: &[u8], text: &[u8]) -> u128
     let text_bits = (text.len() as u64).wrapping_mul(8);
     ((data_bits as u128) << 64) | text_bits as u128
 }
-
-#[cfg(test)]
-mod tests;

@@ -23,6 +23,3 @@ pub use message::{
 pub use read::read_message;
 pub use refusal::{MessageMember, MessageRead};
 pub use whole::is_whole;
-
-#[cfg(test)]
-mod tests;

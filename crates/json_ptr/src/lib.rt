@@ -200,6 +200,3 @@ fn item_at<'a>(list: &'a NodeList, token: &str) -> Result<&'a Node, FindFault>
         Err(FindFault::BadIndex)
     }
 }
-
-#[cfg(test)]
-mod tests;

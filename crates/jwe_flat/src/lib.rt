@@ -16,6 +16,3 @@ pub use opening::{CipherWhy, JweOpen, open_jwe};
 pub use read::{JweMember, JweRead, read_jwe};
 pub use sealing::seal_jwe;
 pub use write::jwe_doc;
-
-#[cfg(test)]
-mod tests;

@@ -10,6 +10,3 @@ mod named;
 mod names;
 
 pub use first::first_fixed;
-
-#[cfg(test)]
-mod tests;

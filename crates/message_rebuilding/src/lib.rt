@@ -15,6 +15,3 @@ pub use clear::clear_message;
 pub use filling::{RebuildFault, fill_message};
 pub use laws::{split_is_rebuilt, values_are_few};
 pub use rebuilding::rebuild;
-
-#[cfg(test)]
-mod tests;

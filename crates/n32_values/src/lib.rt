@@ -30,6 +30,3 @@ pub use same::is_same_doc;
 pub use text::Text;
 pub use whole::Whole;
 pub use write::doc_text;
-
-#[cfg(test)]
-mod tests;

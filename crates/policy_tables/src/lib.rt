@@ -18,6 +18,3 @@ pub use policy_documents::{
     same_policy,
 };
 pub use secret::{is_secret, is_secret_header, is_secret_node, is_secret_pair, is_secret_segment};
-
-#[cfg(test)]
-mod tests;

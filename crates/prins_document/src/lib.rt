@@ -13,8 +13,3 @@ pub use document::{WireDoc, WireMember, WireRead, entries, read_wire_doc};
 pub use rows::route_rows;
 pub use values::{ValuesRead, read_values, values_text};
 pub use write::wire_doc;
-
-#[cfg(test)]
-mod tests;
-#[cfg(test)]
-mod value_tests;

@@ -16,6 +16,3 @@ pub use block_forms::{BlockWhy, LimitName, Meta, MetaRead, is_meta, read_meta};
 pub use laws::split_is_undone;
 pub use message_split::{SplitFault, split};
 pub use read::{BlockRead, read_block};
-
-#[cfg(test)]
-mod tests;

@@ -8,6 +8,3 @@ mod parts;
 mod rules;
 
 pub use check::first_in_clear;
-
-#[cfg(test)]
-mod tests;
