@@ -5,9 +5,9 @@ use Rattle.std.specs.Io.KnownBytes.{Appends, Consumes}
 use Rattle.std.proofs.lemmas.List.{take-append-drop, length-take-le}
 use Rattle.std.proofs.lemmas.Option.{slice_get_within}
 use Rattle.n32_values.proofs.Trees.{drop_at}
-use Rattle.script_loop.specs.Lines.{lines_of, is_blank, ended_lines, IsWithin}
+use Rattle.spec_documents.specs.Lines.{lines_of, is_blank, ended_lines, Outputs}
+use Rattle.script_loop.specs.Lines.{IsWithin}
 use Rattle.script_loop.specs.Limits.{script_limit}
-use Rattle.script_loop.specs.Outputs.{Outputs}
 use Rattle.script_loop.specs.InPart.{IsCut, IsNext}
 use Rattle.script_loop.specs.Ends.{Ends, Answers, AnswersInPart, MeetsNoLimit}
 use Rattle.script_loop.specs.declared.ending.Ending.{Ending}

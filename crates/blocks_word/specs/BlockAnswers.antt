@@ -8,7 +8,7 @@ use Rattle.spec_messages.specs.Block.{Meta}
 use Rattle.spec_messages.specs.Plain.{empty_policy}
 use Rattle.reformat_blocks.specs.Splitting.{Parts, splitting}
 use Rattle.block_forms.specs.declared.fault.LimitName.{LimitName}
-use Rattle.script_loop.specs.Lines.{lines_of, is_blank}
+use Rattle.spec_documents.specs.Lines.{lines_of, is_blank}
 use Rattle.spec_script.specs.Refusals.{Refusal, Beyond}
 use Rattle.spec_script.specs.LineTree.{line_tree}
 use Rattle.spec_script.specs.Messages.{message_in}

@@ -2,7 +2,8 @@
 use Rattle.std.specs.Prelude.{◌≡◌, ◌⊎◌, ℕ, ◌+◌, ◌-◌, ◌<◌, ◌≤◌, false, List, [], ◌∷◌, ◌++◌, length, take, Option, Some, IfSome}
 use Rattle.std.specs.Io.KnownBytes.{Appends, Consumes}
 use Rattle.script_loop.specs.Limits.{script_limit}
-use Rattle.script_loop.specs.Lines.{lines_of, ended_lines, is_blank, IsFirstLong, IsWithin, IsTooLarge}
+use Rattle.spec_documents.specs.Lines.{lines_of, ended_lines, is_blank}
+use Rattle.script_loop.specs.Lines.{IsFirstLong, IsWithin, IsTooLarge}
 use Rattle.script_loop.specs.InPart.{Takes, IsNext}
 use Rattle.script_loop.specs.Ends.{MeetsNoLimit}
 use Rattle.script_loop.specs.declared.ending.Ending.{Ending}

@@ -3,7 +3,7 @@ use Rattle.std.proofs.Common.{◌≡◌, ℕ, ◌+◌, ◌≤◌, cond, List, []
 use Rattle.std.specs.Prelude.{Option, count_by}
 use Rattle.std.proofs.lemmas.List.Sums.{sum_by-append}
 use Rattle.n32_outside.specs.Causes.{RoseBy}
-use Rattle.script_loop.specs.Lines.{is_blank}
+use Rattle.spec_documents.specs.Lines.{is_blank}
 use Rattle.script_loop.specs.InPart.{GivesUp, IsNext, IsCut, IsGivenUp, IsUnbegun}
 use Rattle.script_loop.specs.declared.ending.Ending.{Ending}
 use Rattle.spec_records.specs.Records.{record_limit}

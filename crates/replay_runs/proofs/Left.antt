@@ -4,7 +4,8 @@ use Rattle.std.specs.Prelude.{Option, count_by}
 use Rattle.std.specs.Io.KnownBytes.{Appends}
 use Rattle.n32_outside.specs.Causes.{Rose}
 use Rattle.script_loop.specs.Limits.{script_limit}
-use Rattle.script_loop.specs.Lines.{lines_of, ended_lines, IsWithin}
+use Rattle.spec_documents.specs.Lines.{lines_of, ended_lines}
+use Rattle.script_loop.specs.Lines.{IsWithin}
 use Rattle.script_loop.specs.InPart.{GivesUp}
 use Rattle.script_loop.specs.Ends.{Ends, Answers, AnswersInPart, MeetsNoLimit}
 use Rattle.script_loop.specs.declared.ending.Ending.{Ending}

@@ -10,7 +10,8 @@ use Rattle.std.proofs.lemmas.Option.{slice_get_within}
 use Rattle.n32_values.proofs.Trees.{take_at}
 use Rattle.n32_outside.specs.Contents.{Stays}
 use Rattle.script_loop.specs.Limits.{script_limit}
-use Rattle.script_loop.specs.Lines.{lines_of, ended_lines, is_blank, IsShort, IsWithin}
+use Rattle.spec_documents.specs.Lines.{lines_of, ended_lines, is_blank}
+use Rattle.script_loop.specs.Lines.{IsShort, IsWithin}
 use Rattle.spec_records.specs.Records.{Record}
 use Rattle.context_records.specs.Reading.{ReadsRecord}
 use Rattle.spec_script.specs.Steps.{State}

@@ -5,7 +5,7 @@ use Rattle.std.proofs.lemmas.List.Sums.{sum_by-cons}
 use Rattle.n32_outside.specs.Causes.{Rose, RoseBy}
 use Rattle.spec_exchange.specs.Outside.{no_fault}
 use Rattle.spec_exchange.specs.Outside as outside
-use Rattle.script_loop.specs.Lines.{is_blank}
+use Rattle.spec_documents.specs.Lines.{is_blank}
 use Rattle.spec_script.specs.Events.{line_event}
 use Rattle.spec_script.specs.Refusals as spec
 use Rattle.spec_script.specs.Steps.{State, Answer, Fine, OnWire, Sends, Delivers, Refuses, after, line_step}

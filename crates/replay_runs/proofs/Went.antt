@@ -3,8 +3,7 @@ use Rattle.std.proofs.Common.{◌≡◌, ℕ, ◌+◌, ◌≤◌, Bool, true, fa
 use Rattle.std.specs.Prelude.{Option, count_by}
 use Rattle.std.proofs.lemmas.List.Sums.{sum_by-cons}
 use Rattle.n32_outside.specs.Causes.{RoseBy}
-use Rattle.script_loop.specs.Lines.{is_blank}
-use Rattle.script_loop.specs.Outputs.{Gives, Outputs}
+use Rattle.spec_documents.specs.Lines.{is_blank, Gives, Outputs}
 use Rattle.spec_records.specs.Records.{Record, record_limit}
 use Rattle.spec_exchange.specs.Outside.{with_put}
 use Rattle.spec_exchange.specs.Outside as outside

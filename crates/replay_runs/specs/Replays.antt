@@ -3,7 +3,8 @@ use Rattle.std.specs.Prelude.{◌≡◌, ◌⊎◌, ⊤, ℕ, ◌+◌, ◌-◌, 
 use Rattle.std.specs.Io.KnownBytes.{Appends}
 use Rattle.n32_outside.specs.Causes.{Rose, RoseBy}
 use Rattle.script_loop.specs.Limits.{script_limit}
-use Rattle.script_loop.specs.Lines.{lines_of, ended_lines, is_blank, IsFirstLong, IsWithin, IsTooLarge}
+use Rattle.spec_documents.specs.Lines.{lines_of, ended_lines, is_blank}
+use Rattle.script_loop.specs.Lines.{IsFirstLong, IsWithin, IsTooLarge}
 use Rattle.script_loop.specs.InPart.{Takes, IsNext}
 use Rattle.spec_records.specs.Records.{Record, record_limit}
 use Rattle.spec_exchange.specs.Outside.{Choice, Journal, with_put}

@@ -2,7 +2,7 @@
 use Rattle.std.specs.Prelude.{ℕ, ◌+◌, List, [], ◌∷◌, if◌then◌else◌}
 use Rattle.spec_records.specs.Records.{Record}
 use Rattle.spec_exchange.specs.Outside.{no_fault}
-use Rattle.script_loop.specs.Lines.{lines_of, is_blank}
+use Rattle.spec_documents.specs.Lines.{lines_of, is_blank}
 use Rattle.spec_script.specs.Steps.{State, Step, after, line_step}
 use Rattle.spec_script.specs.Output.{Numbered, answers_text, begin}
 

@@ -2,8 +2,7 @@
 use Rattle.std.proofs.Common.{◌≡◌, ℕ, List, [], ◌∷◌, ◌++◌, false, refl, subst, arith, inl, length-append}
 use Rattle.std.specs.declared.option.Option.{Option}
 use Rattle.std.proofs.KnownBytes.{Appends-nil}
-use Rattle.script_loop.specs.Lines.{is_blank}
-use Rattle.script_loop.specs.Outputs.{Gives, LineOutput}
+use Rattle.spec_documents.specs.Lines.{is_blank, Gives, LineOutput}
 use Rattle.script_loop.specs.InPart.{GivesUp}
 use Rattle.script_loop.specs.Progress.{WritesSome, StopsInLine}
 use Rattle.script_loop.specs.declared.ending.Ending.{Ending}

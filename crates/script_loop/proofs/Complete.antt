@@ -4,8 +4,8 @@ use Rattle.std.specs.Prelude.{Option, slice_get, unwrap_or}
 use Rattle.std.proofs.lemmas.List.{take_all}
 use Rattle.std.proofs.lemmas.Option.{slice_get_within, unwrap_or-slice_get}
 use Rattle.script_loop.specs.Limits.{line_limit, script_limit}
-use Rattle.script_loop.specs.Lines.{lines_of, IsShort, IsFirstLong, IsWithin}
-use Rattle.script_loop.specs.Outputs.{Gives}
+use Rattle.spec_documents.specs.Lines.{lines_of, Gives}
+use Rattle.script_loop.specs.Lines.{IsShort, IsFirstLong, IsWithin}
 use Rattle.script_loop.specs.InPart.{GivesUp}
 use Rattle.script_loop.specs.Ends.{Ends, MeetsNoLimit}
 use Rattle.script_loop.specs.declared.ending.Ending.{Ending}

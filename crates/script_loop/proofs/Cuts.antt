@@ -5,7 +5,7 @@ use Rattle.std.proofs.lemmas.Bool.Decides.{eqb_tells}
 use Rattle.std.proofs.lemmas.List.{take_at}
 use Rattle.std.proofs.lemmas.List.Sums.{sum_by-cons}
 use native.Mathlib.Nat.{add_comm}
-use Rattle.script_loop.specs.Lines.{lines_of, ended_lines}
+use Rattle.spec_documents.specs.Lines.{lines_of, ended_lines}
 use Rattle.script_loop.specs.Progress.{IsPlain, IsLine, unlines, ended}
 
 pub not_newline : (byte : ℕ) → byte ≢ 10 → eqb byte 10 ≡ false

@@ -9,8 +9,8 @@ use Rattle.std.proofs.Math.Seq.{take-append-add}
 use Rattle.std.proofs.lemmas.List.{take_at}
 use Rattle.std.proofs.lemmas.List.Elements.{All-append, All-nil, All-cons, All-from_recursion, All-weaker}
 use Rattle.script_loop.specs.Limits.{line_limit, script_limit}
-use Rattle.script_loop.specs.Lines.{lines_of, ended_lines, IsShort, IsFirstLong, IsWithin}
-use Rattle.script_loop.specs.Outputs.{Gives, Outputs}
+use Rattle.spec_documents.specs.Lines.{lines_of, ended_lines, Gives, Outputs}
+use Rattle.script_loop.specs.Lines.{IsShort, IsFirstLong, IsWithin}
 use Rattle.script_loop.specs.InPart.{GivesUp, StopsAnswer, Takes, IsNext}
 use Rattle.script_loop.specs.Progress.{IsPlain, IsLine, unlines, ended, MeetsLong, BeginsEnded, StopsAmong, StopsInLine, Reaches}
 use Rattle.script_loop.specs.Stops.{Stops, Finishes, PassesLimit}

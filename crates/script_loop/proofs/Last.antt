@@ -2,8 +2,7 @@
 use Rattle.std.proofs.Common.{◌≡◌, ◌<◌, ℕ, List, [], ◌∷◌, length, sym, subst, arith}
 use Rattle.std.specs.Prelude.{Option}
 use Rattle.std.specs.Io.KnownBytes.{Appends}
-use Rattle.script_loop.specs.Lines.{lines_of}
-use Rattle.script_loop.specs.Outputs.{Gives, LineOutput, Outputs}
+use Rattle.spec_documents.specs.Lines.{lines_of, Gives, LineOutput, Outputs}
 use Rattle.script_loop.specs.Progress.{IsPlain}
 use Rattle.script_loop.proofs.Cuts.{lines_of_last}
 use Rattle.script_loop.proofs.Runs.{Outputs-one}

@@ -1,6 +1,6 @@
 -- Runs of a machine over lines, joined.
 use Rattle.std.proofs.Common.{◌≡◌, ◌+◌, ℕ, List, [], ◌∷◌, ◌++◌, length, refl, ap, sym, subst, ◌∙◌, append-nil, append_assoc, add-zero, arith}
-use Rattle.script_loop.specs.Outputs.{Gives, LineOutput, Outputs}
+use Rattle.spec_documents.specs.Lines.{Gives, LineOutput, Outputs}
 
 -- one line
 pub Outputs-one : {M : Type 0} (gives : Gives M) (old : M) (number : ℕ) (line out : List ℕ) (new : M) → LineOutput gives old number line out new → Outputs gives old number (line ∷ []) out new

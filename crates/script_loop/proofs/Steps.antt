@@ -5,7 +5,7 @@ use Rattle.std.specs.List.{AllByRecursion}
 use Rattle.std.specs.Io.KnownBytes.{Appends}
 use Rattle.std.proofs.KnownBytes.{Appends-trans, Appends-nil}
 use Rattle.script_loop.specs.Limits.{line_limit}
-use Rattle.script_loop.specs.Outputs.{Gives, LineOutput, Outputs}
+use Rattle.spec_documents.specs.Lines.{Gives, LineOutput, Outputs}
 use Rattle.script_loop.specs.Progress.{IsPlain, IsLine, unlines, ended, Feeds}
 use Rattle.script_loop.proofs.Runs.{Outputs-one, Outputs-append}
 

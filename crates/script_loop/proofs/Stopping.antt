@@ -3,7 +3,7 @@ use Rattle.std.proofs.Common.{◌≡◌, ◌≢◌, ◌⊎◌, ◌+◌, ℕ, Lis
 use Rattle.std.specs.Prelude.{Option}
 use Rattle.std.specs.Io.KnownBytes.{Appends}
 use Rattle.std.proofs.KnownBytes.{Appends-trans}
-use Rattle.script_loop.specs.Outputs.{Gives, Outputs}
+use Rattle.spec_documents.specs.Lines.{Gives, Outputs}
 use Rattle.script_loop.specs.InPart.{GivesUp, StopsAnswer}
 use Rattle.script_loop.specs.Progress.{IsPlain, IsLine, unlines, Feeds, MeetsLong, BeginsEnded, StopsAmong, StopsInLine}
 use Rattle.script_loop.specs.Stops.{Stops, IsWriting, IsExtending}

@@ -4,7 +4,7 @@ use Rattle.std.specs.Prelude.{Option}
 use Rattle.std.specs.Io.KnownBytes.{Keeps, Consumes, IsAtEnd}
 use Rattle.std.proofs.KnownBytes.{Consumes-trans}
 use Rattle.script_loop.specs.Limits.{script_limit}
-use Rattle.script_loop.specs.Outputs.{Gives}
+use Rattle.spec_documents.specs.Lines.{Gives}
 use Rattle.script_loop.specs.InPart.{GivesUp}
 use Rattle.script_loop.specs.Progress.{Feeds, Reaches}
 use Rattle.script_loop.specs.Stops.{Stops, Finishes, PassesLimit}

@@ -2,8 +2,8 @@
 use Rattle.std.specs.Prelude.{◌≡◌, ◌⊎◌, ℕ, ◌+◌, ◌-◌, List, [], ◌++◌, take, Option, Some}
 use Rattle.std.specs.Io.KnownBytes.{Appends}
 use Rattle.script_loop.specs.Limits.{script_limit}
-use Rattle.script_loop.specs.Lines.{lines_of, ended_lines, IsFirstLong, IsWithin, IsTooLarge}
-use Rattle.script_loop.specs.Outputs.{Gives, Outputs}
+use Rattle.spec_documents.specs.Lines.{lines_of, ended_lines, Gives, Outputs}
+use Rattle.script_loop.specs.Lines.{IsFirstLong, IsWithin, IsTooLarge}
 use Rattle.script_loop.specs.InPart.{GivesUp, Takes, StopsNext, IsUnbegun}
 use Rattle.script_loop.specs.declared.ending.Ending.{Ending}
 use Rattle.script_loop.specs.declared.ending.Ending.TheVariants.{Done, ReadFault, WriteFault, LineTooLong, ScriptTooLarge, NoMemory}

@@ -1,8 +1,8 @@
 -- How the answer to a line stops, and what was taken of the script then.
 use Rattle.std.specs.Prelude.{◌≡◌, ◌⊎◌, ℕ, ◌+◌, ◌<◌, ◌≤◌, List, [], ◌++◌, length, take, slice_get, Option, Some, All}
 use Rattle.script_loop.specs.Limits.{script_limit}
-use Rattle.script_loop.specs.Lines.{lines_of, ended_lines, IsShort}
-use Rattle.script_loop.specs.Outputs.{Gives, LineOutput}
+use Rattle.spec_documents.specs.Lines.{lines_of, ended_lines, Gives, LineOutput}
+use Rattle.script_loop.specs.Lines.{IsShort}
 use Rattle.script_loop.specs.declared.ending.Ending.{Ending}
 use Rattle.script_loop.specs.declared.ending.Ending.TheVariants.{NoMemory}
 

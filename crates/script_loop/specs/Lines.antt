@@ -1,20 +1,7 @@
--- The lines of a script.
-use Rattle.std.specs.Prelude.{◌≡◌, ℕ, ◌+◌, ◌-◌, ◌<◌, ◌≤◌, ◌==◌, ◌||◌, Bool, if◌then◌else◌, List, [], ◌∷◌, length, take, slice_get, Some, All, count_by}
-use Rattle.std.specs.List.{onto_first, list_all}
+-- The limits of a script's lines.
+use Rattle.std.specs.Prelude.{◌≡◌, ℕ, ◌+◌, ◌-◌, ◌<◌, ◌≤◌, List, length, take, slice_get, Some, All}
+use Rattle.spec_documents.specs.Lines.{lines_of}
 use Rattle.script_loop.specs.Limits.{line_limit, script_limit}
-
--- cut at newlines; a last line that is empty is dropped
-abbrev pub lines_of : List ℕ → List (List ℕ)
-lines_of [] = []
-lines_of (byte ∷ bytes) = if byte == 10 then [] ∷ lines_of bytes else onto_first byte (lines_of bytes)
-
--- how many lines end in these bytes
-abbrev pub ended_lines : List ℕ → ℕ
-ended_lines bytes = count_by (λ byte. byte == 10) bytes
-
--- nothing but spaces, tabs and carriage returns
-abbrev pub is_blank : List ℕ → Bool
-is_blank line = list_all (λ byte. byte == 32 || (byte == 9 || byte == 13)) line
 
 abbrev pub IsShort : List ℕ → Type 0
 IsShort line = length line ≤ line_limit

@@ -3,7 +3,7 @@ use Rattle.std.specs.Prelude.{◌≡◌, ◌≢◌, ◌⊎◌, ℕ, ◌+◌, ◌
 use Rattle.std.specs.List.{flat_map, AllByRecursion}
 use Rattle.std.specs.Io.KnownBytes.{Appends, Consumes}
 use Rattle.script_loop.specs.Limits.{line_limit}
-use Rattle.script_loop.specs.Outputs.{Gives, Outputs}
+use Rattle.spec_documents.specs.Lines.{Gives, Outputs}
 use Rattle.script_loop.specs.InPart.{GivesUp, StopsAnswer, IsUnbegun}
 use Rattle.script_loop.specs.declared.ending.Ending.{Ending}
 

@@ -3,8 +3,7 @@ use Rattle.std.specs.Prelude.{ℕ, ◌≡◌, ◌≢◌, ◌⊎◌, ◌≤◌, �
 use Rattle.n32_outside.specs.Causes.{Rose}
 use Rattle.script_loop.specs.Limits.{line_limit}
 use Rattle.std.specs.Io.KnownBytes.{Appends}
-use Rattle.script_loop.specs.Lines.{lines_of}
-use Rattle.script_loop.specs.Outputs.{Gives, Outputs}
+use Rattle.spec_documents.specs.Lines.{lines_of, Gives, Outputs}
 use Rattle.script_loop.specs.InPart.{GivesUp}
 use Rattle.script_loop.specs.Progress.{MeetsLong, StopsAmong, StopsInLine}
 use Rattle.script_loop.specs.declared.ending.Ending.{Ending}

@@ -1,7 +1,7 @@
 ghost use Rattle.std.specs.Prelude.{List, ℕ, OnOk, OnErr, IfErr};
 ghost use Rattle.std.specs.Io.KnownBytes.{Appends};
 ghost use Rattle.n32_outside.specs.Causes.{HasOutCause};
-ghost use Rattle.script_loop.specs.Outputs.{LineOutput};
+ghost use Rattle.spec_documents.specs.Lines.{LineOutput};
 ghost use Rattle.script_loop.specs.Progress.{WritesSome, StopsInLine};
 ghost use Rattle.script_loop.specs.Stops.{HasWriteCause, IsWriting};
 

@@ -2,7 +2,7 @@ ghost use Rattle.std.specs.Prelude.{◌≡◌, ℕ, ◌+◌, ◌-◌, ◌^◌, �
 ghost use Rattle.std.specs.Io.KnownBytes.{Appends};
 ghost use Rattle.n32_outside.specs.Causes.{Rose};
 ghost use Rattle.script_loop.specs.Limits.{line_limit};
-ghost use Rattle.script_loop.specs.Outputs.{LineOutput};
+ghost use Rattle.spec_documents.specs.Lines.{LineOutput};
 ghost use Rattle.script_loop.specs.Progress.{IsLine, Feeds, StopsInLine};
 ghost use Rattle.script_loop.specs.Stops.{HasWriteCause, IsWriting, IsExtending, Stops, Finishes, PassesLimit};
 

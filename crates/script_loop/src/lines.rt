@@ -1,5 +1,5 @@
 ghost use Rattle.std.specs.Prelude.{◌≡◌, ◌∷◌, ◌++◌, IfSome, IfNone};
-ghost use Rattle.script_loop.specs.Lines.{is_blank};
+ghost use Rattle.spec_documents.specs.Lines.{is_blank};
 ghost use Rattle.script_loop.specs.Progress.{IsPlain};
 
 use memchr::memchr;

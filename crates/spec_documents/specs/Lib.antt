@@ -18,3 +18,4 @@ pub mod Data
 pub mod Tokens
 pub mod Base64url
 pub mod Reading
+pub mod Lines

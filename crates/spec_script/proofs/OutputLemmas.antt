@@ -15,8 +15,7 @@ use Rattle.spec_exchange.specs.FirstFailed.{Delivery}
 use Rattle.spec_exchange.specs.Calls.{Sealed, Asks, accepted, sends}
 use Rattle.spec_exchange.specs.Runs
 use Rattle.spec_exchange.proofs.RunLemmas.{bit, bit-below, held-more, delivered-step, numbered-step}
-use Rattle.script_loop.specs.Lines.{is_blank}
-use Rattle.script_loop.specs.Outputs.{Outputs}
+use Rattle.spec_documents.specs.Lines.{is_blank, Outputs}
 use Rattle.spec_script.specs.Events.{line_event}
 use Rattle.spec_script.specs.Steps.{State, Answer, Step, refuses, does, injects, adds_node, puts, sends_sealed, sealed_answer, delivers, delivery_answer, line_step}
 use Rattle.spec_script.specs.Answers.{answer_text}

@@ -4,7 +4,7 @@ use Rattle.spec_messages.specs.Message.{Kind}
 use Rattle.spec_records.specs.Records.{Record}
 use Rattle.spec_exchange.specs.Outside.{Choice, Keeper}
 use Rattle.spec_exchange.specs.Runs
-use Rattle.script_loop.specs.Lines.{lines_of, is_blank}
+use Rattle.spec_documents.specs.Lines.{lines_of, is_blank}
 use Rattle.spec_script.specs.Refusals.{Refusal, OfOutside}
 use Rattle.spec_script.specs.Steps.{State, Answer, Sends, Delivers, Refuses, after, line_step}
 use Rattle.spec_script.specs.Answers.{answer_text}
