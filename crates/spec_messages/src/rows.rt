@@ -20,15 +20,6 @@ pub fn line_rows()
     ensures response { message_of (map_of ((codes "body", null) ∷ (codes "statusLine", words (codes "201")) ∷ [])) ≡ Ok (record { head = response 201; headers = []; body = Some null }) }
 {}
 
-ghost use Rattle.spec_messages.specs.Message.{message_of, request_line, status_line};
-
-/// Of two lines the status line is the wrong one, unless the request line is no object.
-pub fn line_rows()
-    ensures number { message_of (map_of ((codes "requestLine", number 5) ∷ (codes "statusLine", words (codes "200")) ∷ [])) ≡ Err request_line }
-    ensures object { message_of (map_of ((codes "requestLine", map_of []) ∷ (codes "statusLine", words (codes "200")) ∷ [])) ≡ Err status_line }
-    ensures response { message_of (map_of ((codes "body", null) ∷ (codes "statusLine", words (codes "201")) ∷ [])) ≡ Ok (record { head = response 201; headers = []; body = Some null }) }
-{}
-
 /// A message is split under a policy.
 pub fn split_rows()
     ensures hidden { values policy_one (Some 0) message_three ≡ words (codes "0102") ∷ words (codes "0304") ∷ words (codes "suci-0-001-01-0-0-0-0000000001") ∷ [] }
