@@ -41,7 +41,7 @@ pub fn clear_rows()
 
 /// The first member that has not its form is told.
 pub fn form_rows()
-    ensures told { first_failed [] (codes "B") (words []) ≡ Err (Form (codes "document")) }
+    ensures { first_failed [] (codes "B") (words []) ≡ Err (Form (codes "document")) }
 {}
 
 /// A message isn't sent without a context, keys, a number, or the request that it answers.
