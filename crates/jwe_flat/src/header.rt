@@ -75,7 +75,7 @@ fn fault_of(map: &NodeMap, suite: Suite) -> Option<CipherWhy>
 
 // The fault of a header under a suite. A text that is no header has none of the members.
 fn fault_in(header: Option<&NodeMap>, suite: Suite) -> Option<CipherWhy>
-    ensures { option_map misfit_view result ≡ spec.header_misfit (suite_view suite) (spec.members_if (option_map (λ m. m.now) header)) }
+    ensures { option_map misfit_view result ≡ spec.header_misfit (suite_view suite) (spec.members_if (option_map (λ m. m.now) header.entry)) }
 {
     match header {
         Some(map) => fault_of(map, suite),
