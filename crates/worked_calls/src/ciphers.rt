@@ -165,7 +165,8 @@ pub fn seal_in_place_call(alloc: Global, args: Args<'_>, given: &Given) -> Optio
     done(alloc, key_of(args.text("key")?)?, what)
 }
 
-/// The plaintext that `bytes` are opened to at every split of the data; or `kept`, the bytes that are left where they aren't opened.
+/// The plaintext that `bytes` are opened to at every split of the data; or `kept`, the bytes that are left
+/// where they aren't opened.
 pub fn open_in_place_call(alloc: Global, args: Args<'_>, given: &Given) -> Option<Node> {
     let tag = block_of(args.text("tag")?)?;
     let what = sealing_in(args, given, Some(tag))?;

@@ -1,5 +1,5 @@
-// The arguments of a row that are values of the crates below. They are read all at once, so that they are let go in one place: what
-// holds them has one exit, and the calls only borrow them.
+// The arguments of a row that are values of the crates below. They are read all at once, so that they are
+// let go in one place: what holds them has one exit, and the calls only borrow them.
 use crate::args::Args;
 use crate::parts::text_of_parts;
 use http_message::{Form, Head, HeaderList, Message, Request, read_head, read_headers};

@@ -1,6 +1,6 @@
-//! Worked calls: each line of this program's input is a row, as `{"call":"depth","text":"[[]]","is":2}`. The program makes that call of
-//! a crate below with these arguments, and says whether it gives what the row wants. Its stored run is the rows and what is told of them:
-//! `same` of every call.
+//! Worked calls: each line of this program's input is a row, as `{"call":"depth","text":"[[]]","is":2}`. The
+//! program makes that call of a crate below with these arguments, and says whether it gives what the row
+//! wants. Its stored run is the rows and what is told of them: `same` of every call.
 #![tactic(auto)]
 
 use n32_outside::{StdSink, StdSource};
