@@ -4,10 +4,10 @@ ghost use Rattle.spec_records.specs.Records as spec;
 ghost use Rattle.http_message.specs.Reading.{kind_view};
 ghost use Rattle.context_records.specs.View.{context_view, key_set_view, record_view, suite_view};
 
+use context_records::{Context, KeySet, Record};
 use http_message::Kind;
 use jwe_flat::Suite;
 use n32_values::{Hex64, Text};
-use context_records::{Context, KeySet, Record};
 
 // The node and the id that a record names.
 fn name_of(item: &Record) -> (&Text, Hex64)

@@ -10,8 +10,8 @@ ghost use Rattle.context_store.specs.Stores.{AreNamed, Holds, NamesBad, RefusesT
 
 use crate::faults::OpenFault;
 use crate::store::RECORD_LIMIT;
-use n32_outside::{Keeper, OutFault};
 use context_records::{Record, RecordRead, read_record};
+use n32_outside::{Keeper, OutFault};
 use std::alloc::Global;
 
 // The record of the held text of this number.

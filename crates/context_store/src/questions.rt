@@ -8,9 +8,9 @@ use crate::facts::{
     is_closed, is_delivery, is_of, is_reply_to, keyed_for, opened_context, request_delivered,
     request_sent, sent_number, takes_id,
 };
+use context_records::{Context, KeySet, Record};
 use http_message::Kind;
 use n32_values::{Hex64, Text};
-use context_records::{Context, KeySet, Record};
 
 pub(crate) fn used(records: &[Record], node: &Text, id: Hex64) -> bool
     ensures { result ≡ spec.used node.now id.value (map record_view records.now) }

@@ -13,10 +13,10 @@ ghost use Rattle.context_store.specs.Stores.{HasNoBad, IsConsistent, NamesBad};
 use crate::faults::{AddFault, OpenFault};
 use crate::loading::read_records;
 use crate::questions;
+use context_records::{Context, KeySet, Record, record_text};
 use http_message::Kind;
 use n32_outside::{Keeper, OutFault};
 use n32_values::{Hex64, Text};
-use context_records::{Context, KeySet, Record, record_text};
 use std::alloc::Global;
 use std::marker::Model;
 

@@ -1,7 +1,7 @@
 // Events.
+use context_records::KeySet;
 use jwe_flat::Suite;
 use n32_values::{Hex64, Node, PlmnId, Text, TextList, Whole};
-use context_records::KeySet;
 
 /// A context that is handed in. Its policy is a document whose form is judged later.
 #[derive(Drop)]

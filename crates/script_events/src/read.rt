@@ -13,8 +13,8 @@ use crate::words::{
     answers_at, first_at, id_at, ipx_at, key_pair_at, name_at, network_at, suite_at, take,
     value_at, whole_at,
 };
-use n32_values::{Doc, Node, NodeMap};
 use context_records::KeySet;
+use n32_values::{Doc, Node, NodeMap};
 use std::alloc::Global;
 
 fn read_added_node(alloc: Global, map: &NodeMap) -> Result<Event, EventRead>

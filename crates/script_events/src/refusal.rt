@@ -2,8 +2,8 @@ ghost use Rattle.std.specs.Prelude.{◌≡◌};
 ghost use Rattle.script_events.specs.Reading.{IsMemory, of_member};
 
 use crate::member::EventMember;
-use n32_values::NoMemory;
 use context_records::RecordRead;
+use n32_values::NoMemory;
 
 /// Why a document is read to no event.
 #[derive(Clone, Copy, Debug, PartialEq, Eq, Drop)]

@@ -9,13 +9,13 @@ ghost use Rattle.script_events.specs.Reading.{Gives};
 
 use crate::member::EventMember;
 use crate::refusal::{EventRead, of_member};
-use jwe_flat::Suite;
-use n32_values::{Hex64, Node, NodeMap, PlmnId, Text, TextList, Whole, read_hex64};
 use context_records::OneKey;
 use context_records::keys::read_key_pair;
 use context_records::words::{
     number_of, read_id, read_ipx, read_network, read_node_name, read_suite,
 };
+use jwe_flat::Suite;
+use n32_values::{Hex64, Node, NodeMap, PlmnId, Text, TextList, Whole, read_hex64};
 use std::alloc::Global;
 
 #[tactic(auto, using(crate::proofs::Told::told))]

@@ -6,8 +6,10 @@ use crate::nodes::{count_node, fault_node, map_node, put_part, text_node};
 use crate::values::words_of;
 use http_message::Kind;
 use n32_values::{Node, NodeList, NodeMap, copy_doc};
-use prins_document::{WireDoc, WireMember, WireRead, entries, read_wire_doc, wire_doc};
-use prins_document::{ValuesRead, read_values, values_text};
+use prins_document::{
+    ValuesRead, WireDoc, WireMember, WireRead, entries, read_values, read_wire_doc, values_text,
+    wire_doc,
+};
 use std::alloc::Global;
 
 fn part_word(part: WireMember) -> &'static str {
