@@ -21,3 +21,7 @@ returns-clause-answers c = refl
 pub returns-clause-context : goal.returns-clause-context
 unfolding chain.◌>>=◌
 returns-clause-context c = refl
+
+pub returns-clause-status : goal.returns-clause-status
+unfolding chain.◌>>=◌
+returns-clause-status c = refl
