@@ -1,4 +1,4 @@
-use Rattle.std.proofs.Common.{◌≡◌, None, Ok, ap, ◌∙◌, rules}
+use Rattle.std.proofs.Common.{◌≡◌, None, Ok, sym, ap, ◌∙◌, rules}
 use Rattle.spec_sealing.specs.Jwe.{Jwe, before_aad, misfit}
 use Rattle.jwe_flat.specs.View.{content_key_view, jwe_view}
 use Rattle.jwe_flat.proofs.Parts.{opened_parts}
@@ -11,5 +11,4 @@ returns-then-is_whole c =
     let is_head : c.as_bytes.result.now ≡ before_aad w.protected = search rules in
     let is_tail : c.as_bytes-2.result.now ≡ w.aad = search rules in
     let is_old : c.as_mut_slice.result.now ≡ w.ciphertext = search rules in
-    let new_is : c.open_in_place-is_whole.new.buffer ≡ c.from_vec.result = search rules in
-    opened_parts (content_key_view c.args.key.now) w c.as_bytes.result.now c.as_bytes-2.result.now is_head is_tail fits c.as_mut_slice.result.now c.open_in_place-is_whole.new.buffer is_old c.if-is_whole.ensures.opened ∙ ap (λ z. Ok z) new_is
+    opened_parts (content_key_view c.args.key.now) w c.as_bytes.result.now c.as_bytes-2.result.now is_head is_tail fits c.as_mut_slice.result.now _ is_old c.if-is_whole.ensures.opened ∙ ap (λ z. Ok z) (sym c.from_vec.ensures)
