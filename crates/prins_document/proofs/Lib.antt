@@ -1,2 +1,2 @@
-pub mod Entries
-pub mod Values
+pub mod ListedEntries
+pub mod WrittenValues

@@ -102,7 +102,7 @@ fn has_entries(map: &NodeMap) -> bool
 }
 
 // Refuses entries out of their form.
-#[tactic(auto, using(crate::proofs::Entries::listed_entries))]
+#[tactic(auto, using(crate::proofs::ListedEntries::listed_entries))]
 fn check_entries(map: &NodeMap) -> Result<(), WireRead>
     ensures { Gives part_told (λ _. unwrap_or (items_in (get_member (codes "modificationsBlock") map.now)) []) result (wanted (entries_in (get_member (codes "modificationsBlock") map.now)) (codes "modificationsBlock")) }
 {

@@ -1,7 +1,7 @@
 use Rattle.std.proofs.Common.{◌≡◌, ap, ◌∙◌, ◌∷◌, []}
 use Rattle.std.specs.Prelude.{codes}
 use Rattle.spec_documents.specs.Tree.{items, trees, object, put_member}
-use Rattle.prins_document.proofs.Values.{written_back}
+use Rattle.prins_document.proofs.WrittenValues.{written_back}
 use Rattle.prins_document.proofs.values.values_text.Goals as goal
 
 pub returns-clause-reads_back : goal.returns-clause-reads_back
