@@ -1,4 +1,4 @@
 mod Chain
 mod Calls
 mod Counts
-mod Faults
+mod BlockTold

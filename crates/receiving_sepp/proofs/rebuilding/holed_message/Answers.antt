@@ -1,4 +1,4 @@
-use Rattle.receiving_sepp.proofs.Faults.{fault_told}
+use Rattle.receiving_sepp.proofs.BlockTold.{fault_told}
 use Rattle.receiving_sepp.proofs.rebuilding.holed_message.Goals as goal
 
 pub returns-in-Some-clause-message : goal.returns-in-Some-clause-message
