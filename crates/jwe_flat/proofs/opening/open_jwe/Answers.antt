@@ -14,5 +14,5 @@ returns-then-is_whole c =
     let is_old : c.as_mut_slice.result.now ≡ w.ciphertext = search rules in
     let size : c.into_vec-buffer.result.len ≡ length c.open_in_place-is_whole.new.buffer = search rules in
     let all : take c.into_vec-buffer.result.len (c.open_in_place-is_whole.new.buffer ++ drop (length c.open_in_place-is_whole.new.buffer) c.into_vec-buffer.result.items) ≡ c.open_in_place-is_whole.new.buffer =
-        rw (size) (take-append_seam c.open_in_place-is_whole.new.buffer (drop (length c.open_in_place-is_whole.new.buffer) c.into_vec-buffer.result.items)) in
+    rw (size) (take-append_seam c.open_in_place-is_whole.new.buffer (drop (length c.open_in_place-is_whole.new.buffer) c.into_vec-buffer.result.items)) in
     opened_parts (content_key_view c.args.key.now) w c.as_bytes.result.now c.as_bytes-2.result.now is_head is_tail fits c.as_mut_slice.result.now _ is_old c.if-is_whole.ensures.opened ∙ ap (λ z. Ok z) (sym (c.from_vec.ensures ∙ all))
