@@ -39,7 +39,12 @@ fn again(alloc: Global, whole: &WireDoc) -> Option<Node> {
 
 fn put_parts(alloc: Global, map: &mut NodeMap, whole: &WireDoc) -> Option<()> {
     put_part(alloc, map, "kind", text_node(alloc, kind_word(whole.kind)))?;
-    put_part(alloc, map, "ipx", text_node(alloc, whole.authorized.as_str()))?;
+    put_part(
+        alloc,
+        map,
+        "ipx",
+        text_node(alloc, whole.authorized.as_str()),
+    )?;
     put_part(alloc, map, "document", again(alloc, whole))
 }
 
