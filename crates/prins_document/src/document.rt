@@ -1,11 +1,14 @@
 // The whole document.
-ghost use Rattle.std.specs.Prelude.{◌≡◌, [], is_some, option_map, unwrap_or, codes};
+ghost use Rattle.std.specs.Prelude.{◌≡◌, List, [], IsTrue, is_some, option_map, unwrap_or, codes};
 ghost use Rattle.spec_documents.specs.Gives.{Gives};
-ghost use Rattle.spec_documents.specs.Tree.{get_member, items_in};
+ghost use Rattle.spec_documents.specs.Tree.{Tree, get_member, items_in};
+ghost use Rattle.spec_messages.specs.Block.{is_meta};
 ghost use Rattle.spec_messages.specs.Message.{wanted};
 ghost use Rattle.n32_values.specs.View.{tree_of};
-ghost use Rattle.spec_sealing.specs.Received.{entries_in, received};
-ghost use Rattle.prins_document.specs.View.{entries_of, part_told, wire_view};
+ghost use Rattle.spec_sealing.specs.Received.{entries_in, metadata_of, parts_of, received};
+ghost use Rattle.block_forms.specs.Metadata.{meta_view};
+ghost use Rattle.jwe_flat.specs.View.{jwe_view};
+ghost use Rattle.prins_document.specs.View.{entries_of, part_told, parts_view, wire_view};
 
 use crate::block::{Block, id_of, kind_of, read_block};
 use crate::data::{data_in, members_in, read_data};
@@ -113,6 +116,25 @@ fn check_entries(map: &NodeMap) -> Result<(), WireRead>
     }
 }
 
+// What a document with this JWE and this block holds.
+fn whole_of(jwe: FlatJwe, block: Block) -> WireDoc
+    requires meta { metadata_of block.doc ≡ meta_view block.meta }
+    requires grammar { IsTrue (is_meta (meta_view block.meta)) }
+    ensures { (entries : List Tree) → parts_view entries result ≡ parts_of (jwe_view jwe) block.doc entries }
+{
+    let kind = kind_of(&block.doc);
+    let context = id_of(&block.meta.context);
+    let message = id_of(&block.meta.message);
+    WireDoc {
+        jwe,
+        block: block.doc,
+        context,
+        message,
+        authorized: block.meta.ipx,
+        kind,
+    }
+}
+
 /// Reads a reformatted document: `{"reformattedData":{..},"modificationsBlock":[..]}`, where
 /// `reformattedData` is a flattened JWE. Other members are ignored, and the entries aren't read.
 ///
@@ -124,20 +146,7 @@ pub fn read_wire_doc(alloc: Global, doc: &Doc) -> Result<WireDoc, WireRead>
     let map = members_in(doc.node())?;
     let data = data_in(map)?;
     let jwe = read_data(alloc, data)?;
-    let Block { doc: block, meta } = read_block(alloc, jwe.aad.as_str())?;
+    let block = read_block(alloc, jwe.aad.as_str())?;
     check_entries(map)?;
-    let Meta {
-        context,
-        message,
-        ipx,
-    } = meta;
-    let kind = kind_of(&block);
-    Ok(WireDoc {
-        jwe,
-        block,
-        context: id_of(&context),
-        message: id_of(&message),
-        authorized: ipx,
-        kind,
-    })
+    Ok(whole_of(jwe, block))
 }
