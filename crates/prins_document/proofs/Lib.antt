@@ -1,2 +1,4 @@
 pub mod ListedEntries
 pub mod WrittenValues
+mod BlockRead
+mod DocumentRead
