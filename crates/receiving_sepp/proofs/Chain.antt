@@ -14,11 +14,11 @@ abbrev pub shut_refusal : jwes.Shut → spec.Refusal
 shut_refusal (jwes.Cipher why) = spec.Cipher why
 shut_refusal jwes.Integrity = spec.Integrity
 
-pub opens_shut : (key : ContentKey) (w : Jwe) → opens key w ≡ or_refused shut_refusal (jwes.opens key w)
+by_parts : (why : Option Misfit) (plain : Option (List ℕ)) → (none_of spec.Cipher why >>= λ _. wanted plain spec.Integrity) ≡ or_refused shut_refusal (none_of jwes.Cipher why >>= λ _. wanted plain jwes.Integrity)
 unfolding ◌>>=◌
+by_parts None None = refl
+by_parts None (Some plain) = refl
+by_parts (Some why) plain = refl
+
+pub opens_shut : (key : ContentKey) (w : Jwe) → opens key w ≡ or_refused shut_refusal (jwes.opens key w)
 opens_shut key w = by_parts (misfit key w) (opened key w)
-  where
-    by_parts : (why : Option Misfit) (plain : Option (List ℕ)) → (none_of spec.Cipher why >>= λ _. wanted plain spec.Integrity) ≡ or_refused shut_refusal (none_of jwes.Cipher why >>= λ _. wanted plain jwes.Integrity)
-    by_parts None None = refl
-    by_parts None (Some plain) = refl
-    by_parts (Some why) plain = refl

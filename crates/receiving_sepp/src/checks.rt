@@ -25,7 +25,7 @@ pub(crate) struct Checked {
 }
 
 /// The first check that fails, in the order of `Refused`, or what is to be delivered.
-#[tactic(auto, unfolding(spec_exchange::specs::Chain::chains))]
+#[tactic(auto, unfolding(spec_documents::specs::Chain::chains))]
 pub(crate) fn check(
     alloc: Global,
     store: &Store,

@@ -49,7 +49,7 @@ fn keys_of<'a>(store: &'a Store, node: &Text, id: Hex64) -> Result<&'a KeySet, C
 }
 
 /// The open context of an id at a node, and its keys, which fit its suite.
-#[tactic(auto, unfolding(spec_exchange::specs::Chain::chains))]
+#[tactic(auto, unfolding(spec_documents::specs::Chain::chains))]
 pub(crate) fn keyed_context<'a>(
     store: &'a Store,
     node: &Text,
@@ -66,7 +66,7 @@ pub(crate) fn keyed_context<'a>(
 }
 
 /// The plaintext of a JWE whose header is right and whose tag recomputes.
-#[tactic(auto, unfolding(spec_exchange::specs::Chain::chains))]
+#[tactic(auto, unfolding(spec_documents::specs::Chain::chains))]
 pub(crate) fn open(alloc: Global, jwe: &FlatJwe, key: &ContentKey) -> Result<Bytes, CheckFault>
     ensures { Gives told (λ b. b) result (spec.opens (content_key_view key.now) (jwe_view jwe.now)) }
 {

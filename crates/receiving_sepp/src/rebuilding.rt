@@ -90,7 +90,7 @@ fn filled_message(alloc: Global, values: &NodeList, holed: &Message) -> Result<M
 }
 
 /// The message of a block and the plaintext of its values.
-#[tactic(auto, unfolding(spec_exchange::specs::Chain::chains))]
+#[tactic(auto, unfolding(spec_documents::specs::Chain::chains))]
 pub(crate) fn rebuild_message(
     alloc: Global,
     block: Doc,

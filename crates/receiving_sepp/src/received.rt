@@ -77,7 +77,7 @@ fn check_built(document: &Doc, wire: &WireDoc) -> Result<(), CheckFault>
 }
 
 /// A document of the form, and of what is read yet.
-#[tactic(auto, unfolding(spec_exchange::specs::Chain::chains))]
+#[tactic(auto, unfolding(spec_documents::specs::Chain::chains))]
 pub(crate) fn read_received(alloc: Global, document: &Doc) -> Result<WireDoc, CheckFault>
     ensures { Gives told (wire_view document.now) result (formed document.now) }
 {

@@ -58,7 +58,7 @@ fn next_number(store: &Store, node: &Text, id: Hex64) -> Result<u32, CheckFault>
 }
 
 /// The sealed request, or the first check that refuses it, but for the limit on records.
-#[tactic(auto, unfolding(spec_exchange::specs::Chain::chains))]
+#[tactic(auto, unfolding(spec_documents::specs::Chain::chains))]
 pub(crate) fn check(
     alloc: Global,
     store: &Store,
