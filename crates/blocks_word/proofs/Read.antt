@@ -6,7 +6,7 @@ use Rattle.std.proofs.lemmas.Str.{IsUtf8-from_is_utf8, is_utf8-from_IsUtf8}
 use Rattle.serde_json.specs.Data.{Data}
 use Rattle.serde_json.specs.Read.{read}
 use Rattle.spec_documents.specs.Tree.{Tree}
-use Rattle.n32_values.specs.Reading.{HasReading, ReadsTo, HasOtherNumber}
+use Rattle.spec_documents.specs.Reading.{HasReading, ReadsTo, HasOtherNumber}
 use Rattle.spec_script.specs.Refusals.{Syntax, OtherNumber}
 use Rattle.spec_script.specs.LineTree.{text_value, value_tree, or_other_number, line_tree}
 

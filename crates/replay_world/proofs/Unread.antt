@@ -3,6 +3,8 @@ use Rattle.std.proofs.Common.{◌≡◌, List, None, Result, Ok, Err, refl}
 use Rattle.spec_documents.specs.Tree.{Tree}
 use Rattle.spec_records.specs.Records.{Record}
 use Rattle.spec_exchange.specs.Chain.{◌>>=◌}
+use Rattle.spec_exchange.specs.ReceivingRefusals as receiving
+use Rattle.spec_exchange.specs.SendingRefusals as sending
 use Rattle.spec_exchange.specs.Outside.{Choice, Reading, Read, ReadFails, BadRecord, Outcome, behind_reading}
 use Rattle.spec_exchange.specs.FirstFailed.{Delivery}
 use Rattle.spec_exchange.specs.Calls.{Sealed}
@@ -35,13 +37,13 @@ unread_same sites wire rs qs Read k l not_read = absurd (not_read refl)
 unread_same sites wire rs qs ReadFails k l not_read = refused_same sites wire rs qs _
 unread_same sites wire rs qs (BadRecord n) k l not_read = refused_same sites wire rs qs _
 
-sealed_same : (sites : List Site) (wire : List Tree) (rs qs : List Record) (reading : Reading) (o p : Outcome Sealed) → (reading ≡ Read → ⊥)
+sealed_same : (sites : List Site) (wire : List Tree) (rs qs : List Record) (reading : Reading) (o p : Outcome sending.Refusal Sealed) → (reading ≡ Read → ⊥)
     → Same (sends_sealed (over sites wire rs) (behind_reading reading o)) (sends_sealed (over sites wire qs) (behind_reading reading p))
 sealed_same sites wire rs qs Read o p not_read = absurd (not_read refl)
 sealed_same sites wire rs qs ReadFails o p not_read = record { is = refl; none = refl }
 sealed_same sites wire rs qs (BadRecord n) o p not_read = record { is = refl; none = refl }
 
-delivery_same : (sites : List Site) (wire : List Tree) (rs qs : List Record) (reading : Reading) (o p : Outcome Delivery) → (reading ≡ Read → ⊥)
+delivery_same : (sites : List Site) (wire : List Tree) (rs qs : List Record) (reading : Reading) (o p : Outcome receiving.Refusal Delivery) → (reading ≡ Read → ⊥)
     → Same (delivers (over sites wire rs) (behind_reading reading o)) (delivers (over sites wire qs) (behind_reading reading p))
 delivery_same sites wire rs qs Read o p not_read = absurd (not_read refl)
 delivery_same sites wire rs qs ReadFails o p not_read = record { is = refl; none = refl }

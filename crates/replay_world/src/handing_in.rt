@@ -28,7 +28,7 @@ use script_events::HandedContext;
 use std::alloc::Global;
 
 // The context that is handed in, with the policy that its document is of.
-#[tactic(auto, unfolding(spec_exchange::specs::Chain::chains))]
+#[tactic(auto, unfolding(spec_documents::specs::Chain::chains))]
 fn context_of(alloc: Global, handed: HandedContext) -> Result<Context, Unanswered>
     ensures gives { Gives told_refusal context_view result (context_to_open (handed_view handed)) }
     ensures spares { SparesKeeper result }
@@ -146,7 +146,7 @@ pub(crate) fn hand_in_context<K: Keeper>(
 }
 
 // Whether the keys may be handed in: the context is open, has none yet, and they fit its suite.
-#[tactic(auto, unfolding(spec_exchange::specs::Chain::chains))]
+#[tactic(auto, unfolding(spec_documents::specs::Chain::chains))]
 fn check_keys(store: &Store, node: &Text, id: Hex64, keys: &KeySet) -> Result<(), Unanswered>
     ensures gives { Gives told_refusal (λ _. tt) result (keys_may_come store.now.records node.now id.value (key_set_view keys.now)) }
     ensures spares { SparesKeeper result }
