@@ -2,3 +2,4 @@ mod Chain
 mod Calls
 mod Counts
 mod BlockTold
+mod Stages
