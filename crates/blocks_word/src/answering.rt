@@ -7,7 +7,8 @@ ghost use Rattle.block_forms.specs.Metadata.{meta_view};
 ghost use Rattle.spec_script.specs.LineTree.{line_tree};
 ghost use Rattle.spec_script.specs.Messages.{message_in};
 ghost use Rattle.blocks_word.specs.BlockAnswers.{plain_parts, line_parts, parts_tree, no_meta, block_answer};
-ghost use Rattle.blocks_word.specs.Views.{Gives};
+ghost use Rattle.spec_documents.specs.Gives.{Gives};
+ghost use Rattle.blocks_word.specs.Views.{told_refusal};
 
 use doc_forms::put;
 use http_message::{Message, MessageRead, read_message};
@@ -37,7 +38,7 @@ impl From<NoMemory> for Unanswered {
 }
 
 fn read_line(alloc: Global, line: &[u8]) -> Result<Doc, Unanswered>
-    ensures { Gives (λ d. d) result (line_tree line.now) }
+    ensures { Gives told_refusal (λ d. d) result (line_tree line.now) }
 {
     match read_doc(alloc, line) {
         Ok(doc) => Ok(doc),
@@ -48,7 +49,7 @@ fn read_line(alloc: Global, line: &[u8]) -> Result<Doc, Unanswered>
 }
 
 fn read_line_message(alloc: Global, node: &Node) -> Result<Message, Unanswered>
-    ensures gives { Gives message_view result (message_in (tree_of node.now)) }
+    ensures gives { Gives told_refusal message_view result (message_in (tree_of node.now)) }
     ensures whole { IfOk result (λ m. IsTrue (is_whole (message_view m))) }
     ensures shallow { IfOk result (λ m. body_depth (message_view m).body ≤ 64) }
 {
@@ -75,7 +76,7 @@ fn no_metadata(alloc: Global) -> Result<Meta, NoMemory>
 fn split_message(alloc: Global, message: &Message) -> Result<Split, Unanswered>
     requires whole { IsTrue (is_whole (message_view message.now)) }
     requires shallow { body_depth (message_view message.now).body ≤ 64 }
-    ensures { Gives (λ split. (split.block, split.values)) result (plain_parts (message_view message.now)) }
+    ensures { Gives told_refusal (λ split. (split.block, split.values)) result (plain_parts (message_view message.now)) }
 {
     let meta = no_metadata(alloc)?;
     match split(alloc, &Policy::empty(alloc), None, message, meta) {
@@ -87,7 +88,7 @@ fn split_message(alloc: Global, message: &Message) -> Result<Split, Unanswered>
 
 // The block and the values of the message that a line is.
 fn split_line(alloc: Global, line: &[u8]) -> Result<Split, Unanswered>
-    ensures { Gives (λ split. (split.block, split.values)) result (line_parts line.now) }
+    ensures { Gives told_refusal (λ split. (split.block, split.values)) result (line_parts line.now) }
 {
     let doc = read_line(alloc, line)?;
     let message = read_line_message(alloc, doc.node())?;
