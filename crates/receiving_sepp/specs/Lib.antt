@@ -1,3 +1,4 @@
+pub mod Groups
 pub mod Views
 pub mod Refusing
 pub mod Outcome

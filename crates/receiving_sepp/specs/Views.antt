@@ -13,8 +13,11 @@ use Rattle.context_records.specs.View.{context_view, key_set_view}
 use Rattle.spec_exchange.specs.FirstFailed as stages
 use Rattle.spec_exchange.specs.Rebuilding as rebuilding
 use Rattle.spec_exchange.specs.ReceivingRefusals as spec
+use Rattle.receiving_sepp.specs.Groups as groups
 use Rattle.receiving_sepp.specs.declared.opening.KeyedContext.{KeyedContext}
+use Rattle.receiving_sepp.specs.declared.opening.Unsealed.{Unsealed}
 use Rattle.receiving_sepp.specs.declared.rebuilding.Rebuilt.{Rebuilt}
+use Rattle.receiving_sepp.specs.declared.rebuilding.Revealed.{Revealed}
 use Rattle.receiving_sepp.specs.declared.refused.RebuildWhy.{RebuildWhy}
 use Rattle.receiving_sepp.specs.declared.refused.RebuildWhy.TheVariants.{Values, Block, NotText, Depth}
 use Rattle.receiving_sepp.specs.declared.refused.Refused.{Refused}
@@ -57,3 +60,9 @@ keyed_view k = record { context = context_view k.context.now; key_set = key_set_
 
 abbrev pub rebuilt_view : Rebuilt → stages.Rebuilt
 rebuilt_view r = record { holed = message_view r.holed; content = message_view r.content }
+
+abbrev pub unsealed_view : Unsealed → groups.Unsealed
+unsealed_view u = record { context = context_view u.context.now; plain = u.plain }
+
+abbrev pub revealed_view : Revealed → groups.Revealed
+revealed_view r = record { content = message_view r.content; mapping = r.mapping }

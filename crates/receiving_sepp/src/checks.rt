@@ -4,14 +4,12 @@ ghost use Rattle.spec_documents.specs.Text.{is_node_name};
 ghost use Rattle.receiving_sepp.specs.Outcome.{ChecksOut};
 
 use crate::faults::CheckFault;
-use crate::opening::{KeyedContext, check_first, keyed_context, open};
-use crate::rebuilding::{check_sealed, rebuild_message};
+use crate::opening::unseal;
+use crate::rebuilding::reveal;
 use crate::received::read_received;
-use context_calls::{mapping_for, receive_key};
 use context_store::Store;
 use http_message::{Kind, Message};
 use n32_values::{Doc, Hex64, Text};
-use prins_document::WireDoc;
 use std::alloc::Global;
 
 // A document that passed all checks, but for the limit on records.
@@ -25,7 +23,6 @@ pub(crate) struct Checked {
 }
 
 /// The first check that fails, in the order of `Refused`, or what is to be delivered.
-#[tactic(auto, unfolding(spec_documents::specs::Chain::chains))]
 pub(crate) fn check(
     alloc: Global,
     store: &Store,
@@ -35,25 +32,15 @@ pub(crate) fn check(
     ensures checks { ChecksOut store.now.records node.now document.now result }
     ensures named { IfOk result (λ _. IsTrue (is_node_name node.now)) }
 {
-    let WireDoc {
-        jwe,
-        block,
-        context: id,
-        message,
-        kind,
-        ..
-    } = read_received(alloc, document)?;
-    let KeyedContext { context, keys } = keyed_context(store, node, id)?;
-    let plain = open(alloc, &jwe, receive_key(context.suite, keys, kind))?;
-    check_first(store, node, id, kind, message)?;
-    let rebuilt = rebuild_message(alloc, block, plain.as_slice())?;
-    let mapping = mapping_for(&context.policy, &rebuilt.content);
-    check_sealed(alloc, &context.policy, mapping, &rebuilt)?;
+    let received = read_received(alloc, document)?;
+    let unsealed = unseal(alloc, store, node, &received)?;
+    let policy = &unsealed.context.policy;
+    let revealed = reveal(alloc, policy, received.block, unsealed.plain.as_slice())?;
     Ok(Checked {
-        content: rebuilt.content,
-        context: id,
-        kind,
-        message,
-        mapping,
+        content: revealed.content,
+        context: received.context,
+        kind: received.kind,
+        message: received.message,
+        mapping: revealed.mapping,
     })
 }

@@ -10,16 +10,18 @@ ghost use Rattle.context_records.specs.View.{context_view, key_set_view, suite_v
 ghost use Rattle.spec_exchange.specs.FirstFailed as spec;
 ghost use Rattle.spec_exchange.specs.ReceivingRefusals as refusals;
 ghost use Rattle.receiving_sepp.specs.Refusing.{told};
-ghost use Rattle.receiving_sepp.specs.Views.{keyed_view};
+ghost use Rattle.receiving_sepp.specs.Groups.{unsealed};
+ghost use Rattle.receiving_sepp.specs.Views.{keyed_view, unsealed_view};
 
 use crate::faults::CheckFault;
 use crate::refused::Refused;
-use context_calls::keys_fit_suite;
+use context_calls::{keys_fit_suite, receive_key};
 use context_records::{Context, KeySet};
 use context_store::Store;
 use http_message::Kind;
 use jwe_flat::{ContentKey, FlatJwe, JweOpen, open_jwe};
 use n32_values::{Bytes, Hex64, Text};
+use prins_document::WireDoc;
 use std::alloc::Global;
 
 // An open context, and its keys.
@@ -27,6 +29,13 @@ use std::alloc::Global;
 pub(crate) struct KeyedContext<'a> {
     pub(crate) context: &'a Context,
     pub(crate) keys: &'a KeySet,
+}
+
+// What a JWE opens to, with the context under which it was sealed.
+#[derive(Drop)]
+pub(crate) struct Unsealed<'a> {
+    pub(crate) context: &'a Context,
+    pub(crate) plain: Bytes,
 }
 
 fn context_of<'a>(store: &'a Store, node: &Text, id: Hex64) -> Result<&'a Context, CheckFault>
@@ -48,9 +57,9 @@ fn keys_of<'a>(store: &'a Store, node: &Text, id: Hex64) -> Result<&'a KeySet, C
     }
 }
 
-/// The open context of an id at a node, and its keys, which fit its suite.
+// The open context of an id at a node, and its keys, which fit its suite.
 #[tactic(auto, unfolding(spec_documents::specs::Chain::chains))]
-pub(crate) fn keyed_context<'a>(
+fn keyed_context<'a>(
     store: &'a Store,
     node: &Text,
     id: Hex64,
@@ -65,9 +74,9 @@ pub(crate) fn keyed_context<'a>(
     Ok(KeyedContext { context, keys })
 }
 
-/// The plaintext of a JWE whose header is right and whose tag recomputes.
+// The plaintext of a JWE whose header is right and whose tag recomputes.
 #[tactic(auto, unfolding(spec_documents::specs::Chain::chains))]
-pub(crate) fn open(alloc: Global, jwe: &FlatJwe, key: &ContentKey) -> Result<Bytes, CheckFault>
+fn open(alloc: Global, jwe: &FlatJwe, key: &ContentKey) -> Result<Bytes, CheckFault>
     ensures { Gives told (λ b. b) result (spec.opens (content_key_view key.now) (jwe_view jwe.now)) }
 {
     match open_jwe(alloc, jwe, key) {
@@ -78,8 +87,8 @@ pub(crate) fn open(alloc: Global, jwe: &FlatJwe, key: &ContentKey) -> Result<Byt
     }
 }
 
-/// Refuses a message that was delivered before.
-pub(crate) fn check_first(
+// Refuses a message that was delivered before.
+fn check_first(
     store: &Store,
     node: &Text,
     id: Hex64,
@@ -92,4 +101,27 @@ pub(crate) fn check_first(
         Some(number) => Err(CheckFault::Refused(Refused::Replay(number))),
         None => Ok(()),
     }
+}
+
+/// The plaintext of a document under its context at the node, where its message was not delivered before.
+#[tactic(auto, unfolding(spec_documents::specs::Chain::chains))]
+pub(crate) fn unseal<'a>(
+    alloc: Global,
+    store: &'a Store,
+    node: &Text,
+    document: &WireDoc,
+) -> Result<Unsealed<'a>, CheckFault>
+    ensures unsealed { Gives told unsealed_view result (unsealed store.now.records node.now document.now.context.value (kind_view document.now.kind) document.now.message.value (jwe_view document.now.jwe)) }
+    ensures named { IfOk result (λ _. IsTrue (is_node_name node.now)) }
+{
+    let id = document.context;
+    let kind = document.kind;
+    let keyed = keyed_context(store, node, id)?;
+    let key = receive_key(keyed.context.suite, keyed.keys, kind);
+    let plain = open(alloc, &document.jwe, key)?;
+    check_first(store, node, id, kind, document.message)?;
+    Ok(Unsealed {
+        context: keyed.context,
+        plain,
+    })
 }

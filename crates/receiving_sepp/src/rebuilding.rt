@@ -11,11 +11,13 @@ ghost use Rattle.spec_exchange.specs.Rebuilding as spec;
 ghost use Rattle.spec_exchange.specs.ReceivingRefusals as refusals;
 ghost use Rattle.spec_sealing.specs.Plaintext.{values_of};
 ghost use Rattle.receiving_sepp.specs.Refusing.{told};
-ghost use Rattle.receiving_sepp.specs.Views.{rebuilt_view};
+ghost use Rattle.receiving_sepp.specs.Groups.{revealed};
+ghost use Rattle.receiving_sepp.specs.Views.{rebuilt_view, revealed_view};
 
 use crate::faults::CheckFault;
 use crate::refused::{RebuildWhy, Refused};
 use block_forms::{BlockWhy, block_fault};
+use context_calls::mapping_for;
 use http_message::Message;
 use message_rebuilding::{RebuildFault, clear_message, fill_message, values_are_few};
 use n32_values::{Doc, NoMemory, NodeList};
@@ -24,6 +26,13 @@ use prins_document::{ValuesRead, read_values};
 use reformat_blocks::Block;
 use sealing_check::first_in_clear;
 use std::alloc::Global;
+
+// A message with all its values, and the mapping that it goes by.
+#[derive(Drop)]
+pub(crate) struct Revealed {
+    pub(crate) content: Message,
+    pub(crate) mapping: Option<u32>,
+}
 
 // A message with its holes, and with all its values.
 #[derive(Drop)]
@@ -89,13 +98,9 @@ fn filled_message(alloc: Global, values: &NodeList, holed: &Message) -> Result<M
     }
 }
 
-/// The message of a block and the plaintext of its values.
+// The message of a block and the plaintext of its values.
 #[tactic(auto, unfolding(spec_documents::specs::Chain::chains))]
-pub(crate) fn rebuild_message(
-    alloc: Global,
-    block: Doc,
-    plain: &[u8],
-) -> Result<Rebuilt, CheckFault>
+fn rebuild_message(alloc: Global, block: Doc, plain: &[u8]) -> Result<Rebuilt, CheckFault>
     ensures { Gives told rebuilt_view result (rebuilt block plain.now) }
 {
     let values = values_of(alloc, plain)?;
@@ -104,8 +109,8 @@ pub(crate) fn rebuild_message(
     Ok(Rebuilt { holed, content })
 }
 
-/// Refuses a message that has in clear what the policy makes secret.
-pub(crate) fn check_sealed(
+// Refuses a message that has in clear what the policy makes secret.
+fn check_sealed(
     alloc: Global,
     policy: &Policy,
     mapping: Option<u32>,
@@ -117,4 +122,24 @@ pub(crate) fn check_sealed(
         Some(address) => Err(CheckFault::Refused(Refused::Policy(address))),
         None => Ok(()),
     }
+}
+
+/// The message of a block and the plaintext of its values, which has in clear nothing that the policy makes
+/// secret.
+#[tactic(auto, unfolding(spec_documents::specs::Chain::chains))]
+pub(crate) fn reveal(
+    alloc: Global,
+    policy: &Policy,
+    block: Doc,
+    plain: &[u8],
+) -> Result<Revealed, CheckFault>
+    ensures { Gives told revealed_view result (revealed policy.now block plain.now) }
+{
+    let rebuilt = rebuild_message(alloc, block, plain)?;
+    let mapping = mapping_for(policy, &rebuilt.content);
+    check_sealed(alloc, policy, mapping, &rebuilt)?;
+    Ok(Revealed {
+        content: rebuilt.content,
+        mapping,
+    })
 }

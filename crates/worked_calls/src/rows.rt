@@ -149,7 +149,7 @@ impl Machine for Rows {
 
     ghost gives = { λ _ _ _ _ _. Unit {0} };
 
-    ghost gives_up = { λ _ _. Unit {0} };
+    ghost gives_up = { λ _ _ _ _. Unit {0} };
 
     ghost later = { λ _ _. Unit {0} };
 
