@@ -414,17 +414,19 @@ fn words_name_a_command_and_perhaps_a_file(rt: HostRuntime) {
     }
 }
 
+// Whether a run with these words reads, writes and keeps nothing.
+fn is_refused_unread(alloc: Global, words: &[&str]) -> bool {
+    let objects = objects_of(alloc, words, b"[]", &[0], &[0]);
+    let mut keeper = keeper_of(alloc, &[], &[]);
+    ends(alloc, objects, &mut keeper, Status::Words, "")
+}
+
 #[test]
 fn words_of_another_shape_are_refused_unread(rt: HostRuntime) {
-    for words in [
-        [].as_slice(),
-        ["blocks", "x"].as_slice(),
-        ["block"].as_slice(),
-    ] {
-        let objects = objects_of(rt.alloc(), words, b"[]", &[0], &[0]);
-        let mut keeper = keeper_of(rt.alloc(), &[], &[]);
-        assert!(rt; ends(rt.alloc(), objects, &mut keeper, Status::Words, ""));
-    }
+    let alloc = rt.alloc();
+    assert!(rt; is_refused_unread(alloc, &[]));
+    assert!(rt; is_refused_unread(alloc, &["blocks", "x"]));
+    assert!(rt; is_refused_unread(alloc, &["block"]));
 }
 
 fn is_told(alloc: Global, status: Status, text: &str) -> bool {

@@ -79,7 +79,7 @@ fn sites(alloc: Global) -> Option<SiteList>
 }
 
 fn document(alloc: Global) -> Option<Doc>
-    ensures { IfSome result (λ d. IsShallow d.now) }
+    ensures { IfSome result (λ d. IsShallow d) }
 {
     match read_doc(alloc, DOCUMENT.as_bytes()) {
         Ok(document) => if depth(document.node()) > 126 {
