@@ -1,6 +1,6 @@
 //! GHASH over bytes, a block at a time.
 
-ghost use Rattle.std.specs.Prelude.{◌≡◌, ℕ, ◌+◌, ◌*◌, ◌^◌, ◌<◌, ◌≤◌, List, ◌++◌, length, slice_index};
+ghost use Rattle.std.specs.Prelude.{◌≡◌, ℕ, ◌+◌, ◌*◌, ◌^◌, ◌<◌, ◌≤◌, List, ◌++◌, slice_index};
 ghost use Rattle.spec_sealing.specs.GcmField.{ghash};
 ghost use Rattle.spec_sealing.specs.Gcm.{block_at, blocks};
 
