@@ -1,6 +1,6 @@
 -- A JWE whose tree is the written one is read back.
-use Rattle.std.proofs.Common.{◌≡◌, Ok, refl, sym, ap, ◌∙◌, codes}
-use Rattle.spec_documents.specs.Tree.{Tree, members}
+use Rattle.std.proofs.Common.{◌≡◌, Ok, ap, ◌∙◌, codes}
+use Rattle.spec_documents.specs.Tree.{Tree}
 use Rattle.spec_documents.proofs.Chains.{bind_at}
 use Rattle.spec_messages.specs.Message.{wanted}
 use Rattle.spec_sealing.specs.Header.{object_in}

@@ -30,7 +30,10 @@ fn is_read(mut source: MemSource) -> bool {
 }
 
 fn is_source_failing(alloc: Global) -> bool {
-    match (Bytes::from_slice(alloc, b"abcde"), call_list(alloc, &[1, 3])) {
+    match (
+        Bytes::from_slice(alloc, b"abcde"),
+        call_list(alloc, &[1, 3]),
+    ) {
         (Ok(text), Ok(fails)) => is_read(MemSource::new(text, fails)),
         _ => false,
     }
@@ -90,10 +93,22 @@ fn is_kept_where_listed(alloc: Global, mut keeper: MemKeeper) -> bool {
 
 fn is_keeper_failing(alloc: Global) -> bool {
     let items = [
-        FailItem { call: 1, keeps: true },
-        FailItem { call: 2, keeps: false },
-        FailItem { call: 2, keeps: true },
-        FailItem { call: 5, keeps: true },
+        FailItem {
+            call: 1,
+            keeps: true,
+        },
+        FailItem {
+            call: 2,
+            keeps: false,
+        },
+        FailItem {
+            call: 2,
+            keeps: true,
+        },
+        FailItem {
+            call: 5,
+            keeps: true,
+        },
     ];
     match fail_list(alloc, &items) {
         Ok(fails) => is_kept_where_listed(alloc, MemKeeper::new(alloc, fails)),
