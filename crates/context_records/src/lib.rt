@@ -7,6 +7,7 @@ mod context;
 pub mod keys;
 mod read;
 mod record;
+mod suite_keys;
 /// The words, numbers and lists that records and events have.
 pub mod words;
 mod write;
@@ -14,4 +15,5 @@ mod write;
 pub use context::{Context, KeySet, OneKey};
 pub use read::{RecordRead, read_record};
 pub use record::Record;
+pub use suite_keys::{receive_key, send_key, send_nonce};
 pub use write::record_text;

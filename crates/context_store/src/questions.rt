@@ -1,5 +1,5 @@
 // The questions on a list of records, the oldest first. Each goes over the whole list.
-ghost use Rattle.std.specs.Prelude.{◌≡◌, ◌≤◌, map, length, option_map, Option};
+ghost use Rattle.std.specs.Prelude.{◌≡◌, map, option_map, Option};
 ghost use Rattle.spec_records.specs.Records as spec;
 ghost use Rattle.http_message.specs.Reading.{kind_view};
 ghost use Rattle.context_records.specs.View.{context_view, key_set_view, record_view};

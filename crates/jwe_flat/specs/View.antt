@@ -9,7 +9,7 @@ use Rattle.jwe_flat.specs.declared.key.Suite.TheVariants.{A128Gcm, A256Gcm}
 use Rattle.jwe_flat.specs.declared.key.ContentKey.{ContentKey}
 use Rattle.jwe_flat.specs.declared.key.ContentKey.TheVariants.{Aes128, Aes256}
 use Rattle.jwe_flat.specs.declared.read.JweMember.{JweMember}
-use Rattle.jwe_flat.specs.declared.read.JweMember.TheVariants.{Protected, Aad, Iv, Ciphertext, Tag, EncryptedKey, Unprotected, Header}
+use Rattle.jwe_flat.specs.declared.read.JweMember.TheVariants.{Protected, Aad, Iv, Ciphertext, Tag, EncryptedKey, Unprotected, Header, Whole}
 use Rattle.jwe_flat.specs.declared.read.JweRead.{JweRead}
 use Rattle.jwe_flat.specs.declared.read.JweRead.TheVariants as reading
 use Rattle.jwe_flat.specs.declared.opening.CipherWhy.{CipherWhy}
@@ -42,7 +42,7 @@ shut_told (opening.Cipher why) = Some (jwes.Cipher (misfit_view why))
 shut_told opening.Integrity = Some jwes.Integrity
 shut_told opening.NoMemory = None
 
--- the name of a member
+-- the name of a member. The whole is told as the member that it is of a reformatted document
 abbrev pub member_name : JweMember → List ℕ
 member_name Protected = codes "protected"
 member_name Aad = codes "aad"
@@ -52,6 +52,7 @@ member_name Tag = codes "tag"
 member_name EncryptedKey = codes "encrypted_key"
 member_name Unprotected = codes "unprotected"
 member_name Header = codes "header"
+member_name Whole = codes "reformattedData"
 
 -- the member that an error tells
 abbrev pub member_told : JweRead → Option (List ℕ)

@@ -13,6 +13,6 @@ mod write;
 pub use jwe::FlatJwe;
 pub use key::{ContentKey, Suite};
 pub use opening::{CipherWhy, JweOpen, open_jwe};
-pub use read::{JweMember, JweRead, read_jwe};
+pub use read::{JweMember, JweRead, read_jwe, read_jwe_members};
 pub use sealing::seal_jwe;
 pub use write::jwe_doc;

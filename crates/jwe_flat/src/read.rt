@@ -6,15 +6,17 @@ ghost use Rattle.spec_documents.specs.Gives.{Gives};
 ghost use Rattle.spec_messages.specs.Message.{any_text, text_at, wanted};
 ghost use Rattle.spec_sealing.specs.Header.{header_in};
 ghost use Rattle.spec_sealing.specs.Jwe as spec;
+ghost use Rattle.n32_values.specs.View.{tree_of};
+ghost use Rattle.jwe_flat.specs.Documents.{jwe_of};
 ghost use Rattle.jwe_flat.specs.View.{jwe_view, member_name, member_told};
 
 use crate::header::{has_text, read_header};
 use crate::jwe::FlatJwe;
 use doc_forms::{Grammar, text_at};
-use n32_values::{B64Fault, Bytes, NoMemory, NodeMap, Text, read_base64url};
+use n32_values::{B64Fault, Bytes, NoMemory, Node, NodeMap, Text, read_base64url};
 use std::alloc::Global;
 
-/// The members of a JWE's document (RFC 7516, section 7.2.2). They are asked in this order.
+/// The members of a JWE's document (RFC 7516, section 7.2.2). They are asked in this order, and the whole before them.
 #[derive(Clone, Copy, Debug, PartialEq, Eq, Drop)]
 pub enum JweMember {
     /// `protected` isn't base64url of a JSON object.
@@ -33,9 +35,11 @@ pub enum JweMember {
     Unprotected,
     /// `header` is there.
     Header,
+    /// It is no object.
+    Whole,
 }
 
-/// Why an object isn't read to a JWE.
+/// Why a node isn't read to a JWE.
 #[derive(Clone, Copy, Debug, PartialEq, Eq, Drop)]
 pub enum JweRead {
     /// The first member that has not its form.
@@ -122,12 +126,9 @@ fn has_no_key(map: &NodeMap) -> bool
     map.get("encrypted_key").is_none() || has_text(map, "encrypted_key", "")
 }
 
-/// Reads the JWE that an object is of. The texts of `protected` and `aad` are kept as they stand.
-/// Other members are ignored.
-///
-/// `Form` names the first member that has not its form, in the order of `JweMember`.
+/// Reads the JWE that an object with these members is of, as `read_jwe` does.
 #[tactic(auto, unfolding(spec_documents::specs::Chain::chains))]
-pub fn read_jwe(alloc: Global, map: &NodeMap) -> Result<FlatJwe, JweRead>
+pub fn read_jwe_members(alloc: Global, map: &NodeMap) -> Result<FlatJwe, JweRead>
     ensures { Gives member_told jwe_view result (spec.jwe_in map.now) }
 {
     let protected = read_protected(alloc, map)?;
@@ -153,4 +154,17 @@ pub fn read_jwe(alloc: Global, map: &NodeMap) -> Result<FlatJwe, JweRead>
         ciphertext,
         tag,
     })
+}
+
+/// Reads the JWE that a node is of. The texts of `protected` and `aad` are kept as they stand. Other members are ignored.
+///
+/// `Form` names the first member that has not its form, in the order of `JweMember`, and `Whole` before all others.
+#[tactic(auto, unfolding(spec_documents::specs::Chain::chains))]
+pub fn read_jwe(alloc: Global, node: &Node) -> Result<FlatJwe, JweRead>
+    ensures { Gives member_told jwe_view result (jwe_of (tree_of node.now)) }
+{
+    match node {
+        Node::Members(map) => read_jwe_members(alloc, map),
+        _ => Err(JweRead::Form(JweMember::Whole)),
+    }
 }

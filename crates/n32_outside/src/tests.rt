@@ -5,49 +5,60 @@ use crate::{
     CallList, FailAt, FailItem, FailList, Failed, FileKeeper, JwsAlg, Keeper, LockFile, MemKeeper,
     MemSink, MemSource, OutFault, Signer, Sink, Source, StdSink, StdSource, Verifier,
 };
-use n32_values::{Bytes, Text};
+use n32_values::{Bytes, NoMemory, Text};
 use std::alloc::{Allocator, Global};
 use std::fs::{self, Metadata, OpenFile, OpenOptions};
 use std::io::{self, ErrorKind, Read, Seek, SeekFrom, Write};
 use std::rt::Files;
-use std::test::Fail;
 
-fn calls(alloc: Global, numbers: &[u64]) -> Result<CallList, Fail> {
-    let mut list = CallList::new(alloc);
-    for number in numbers {
-        list.push(*number).ok().ok_or("memory")?;
+fn call_list(alloc: Global, numbers: &[u64]) -> Result<CallList, NoMemory> {
+    Ok(CallList::from_vec(Vec::from_slice(alloc, numbers)?))
+}
+
+// Whether the bytes `abcde` are read in pieces of two, with faults at the calls 1 and 3.
+fn is_read(mut source: MemSource) -> bool {
+    let mut room = [0u8; 2];
+    source.read(&mut room) == Ok(2)
+        && source.read(&mut room) == Err(Failed)
+        && room == *b"ab"
+        && source.read(&mut room) == Ok(2)
+        && source.read(&mut room) == Err(Failed)
+        && room == *b"cd"
+        && source.read(&mut room) == Ok(1)
+        && source.read(&mut room) == Ok(0)
+        && room == *b"ed"
+}
+
+fn is_source_failing(alloc: Global) -> bool {
+    match (
+        Bytes::from_slice(alloc, b"abcde"),
+        call_list(alloc, &[1, 3]),
+    ) {
+        (Ok(text), Ok(fails)) => is_read(MemSource::new(text, fails)),
+        _ => false,
     }
-    Ok(list)
+}
+
+// Whether pieces are written but for faults at the calls 0 and 2.
+fn is_written(mut sink: MemSink) -> bool {
+    sink.write(b"ab") == Err(OutFault::Failed)
+        && sink.write(b"cd") == Ok(2)
+        && sink.write(b"ef") == Err(OutFault::Failed)
+        && sink.write(b"gh") == Ok(2)
+        && sink.written() == b"cdgh".as_slice()
+}
+
+fn is_sink_failing(alloc: Global) -> bool {
+    match call_list(alloc, &[0, 2]) {
+        Ok(fails) => is_written(MemSink::new(alloc, fails)),
+        Err(_) => false,
+    }
 }
 
 #[test]
-fn objects_in_memory_fail_at_their_listed_calls(rt: HostRuntime) -> Result<(), Fail> {
-    let alloc = rt.alloc();
-    let text = Bytes::from_slice(alloc, b"abcde").ok().ok_or("memory")?;
-    let mut source = MemSource::new(text, calls(alloc, &[1, 3])?);
-    let mut sink = MemSink::new(alloc, calls(alloc, &[0, 2])?);
-    let mut room = [0u8; 2];
-    for (wanted, read) in [
-        (Ok(2), b"ab"),
-        (Err(Failed), b"ab"),
-        (Ok(2), b"cd"),
-        (Err(Failed), b"cd"),
-        (Ok(1), b"ed"),
-        (Ok(0), b"ed"),
-    ] {
-        assert!(rt; source.read(&mut room) == wanted);
-        assert!(rt; room == *read);
-    }
-    for (piece, wanted) in [
-        (b"ab", Err(OutFault::Failed)),
-        (b"cd", Ok(2)),
-        (b"ef", Err(OutFault::Failed)),
-        (b"gh", Ok(2)),
-    ] {
-        assert!(rt; sink.write(piece) == wanted);
-    }
-    assert_eq!(rt; sink.written(), b"cdgh".as_slice());
-    Ok(())
+fn objects_in_memory_fail_at_their_listed_calls(rt: HostRuntime) {
+    assert!(rt; is_source_failing(rt.alloc()));
+    assert!(rt; is_sink_failing(rt.alloc()));
 }
 
 fn is_found(
@@ -62,33 +73,52 @@ fn is_found(
     }
 }
 
+fn fail_list(alloc: Global, items: &[FailItem]) -> Result<FailList, NoMemory> {
+    Ok(FailList::from_vec(Vec::from_slice(alloc, items)?))
+}
+
+// Whether the keeper keeps the item of a failing call that is listed so, and fails at loads as well.
+fn is_kept_where_listed(alloc: Global, mut keeper: MemKeeper) -> bool {
+    keeper.put(b"zero").is_ok()
+        && keeper.put(b"one") == Err(OutFault::Failed)
+        && keeper.put(b"lost") == Err(OutFault::Failed)
+        && keeper.put(b"").is_ok()
+        && is_found(keeper.load(alloc, 1), Ok(Some(b"one")))
+        && is_found(keeper.load(alloc, 0), Err(OutFault::Failed))
+        && is_found(keeper.load(alloc, 0), Ok(Some(b"zero")))
+        && is_found(keeper.load(alloc, 2), Ok(Some(b"")))
+        && is_found(keeper.load(alloc, 3), Ok(None))
+        && is_found(keeper.load(alloc, u64::MAX), Ok(None))
+}
+
+fn is_keeper_failing(alloc: Global) -> bool {
+    let items = [
+        FailItem {
+            call: 1,
+            keeps: true,
+        },
+        FailItem {
+            call: 2,
+            keeps: false,
+        },
+        FailItem {
+            call: 2,
+            keeps: true,
+        },
+        FailItem {
+            call: 5,
+            keeps: true,
+        },
+    ];
+    match fail_list(alloc, &items) {
+        Ok(fails) => is_kept_where_listed(alloc, MemKeeper::new(alloc, fails)),
+        Err(_) => false,
+    }
+}
+
 #[test]
-fn a_keeper_in_memory_fails_at_its_listed_calls(rt: HostRuntime) -> Result<(), Fail> {
-    let alloc = rt.alloc();
-    let mut fails = FailList::new(alloc);
-    for (call, keeps) in [(1, true), (2, false), (2, true), (5, true)] {
-        fails.push(FailItem { call, keeps }).ok().ok_or("memory")?;
-    }
-    let mut keeper = MemKeeper::new(alloc, fails);
-    for (item, wanted) in [
-        (b"zero".as_slice(), Ok(())),
-        (b"one".as_slice(), Err(OutFault::Failed)),
-        (b"lost".as_slice(), Err(OutFault::Failed)),
-        (b"".as_slice(), Ok(())),
-    ] {
-        assert!(rt; keeper.put(item) == wanted);
-    }
-    for (number, wanted) in [
-        (1, Ok(Some(b"one".as_slice()))),
-        (0, Err(OutFault::Failed)),
-        (0, Ok(Some(b"zero".as_slice()))),
-        (2, Ok(Some(b"".as_slice()))),
-        (3, Ok(None)),
-        (u64::MAX, Ok(None)),
-    ] {
-        assert!(rt; is_found(keeper.load(alloc, number), wanted));
-    }
-    Ok(())
+fn a_keeper_in_memory_fails_at_its_listed_calls(rt: HostRuntime) {
+    assert!(rt; is_keeper_failing(rt.alloc()));
 }
 
 // Whether the file holds these bytes.
@@ -330,28 +360,38 @@ fn is_signed(signed: Result<Bytes, OutFault>, wanted: Result<&[u8], OutFault>) -
     }
 }
 
+fn is_signing(alloc: Global, mut signer: FailAt<Echo>, identity: &Text) -> bool {
+    is_signed(signer.sign(alloc, identity, b"in"), Ok(b"in"))
+        && is_signed(signer.sign(alloc, identity, b"in"), Err(OutFault::Failed))
+        && is_signed(signer.sign(alloc, identity, b"in"), Ok(b"in"))
+        && signer.alg() == JwsAlg::Hs256
+}
+
+fn is_verifying(alloc: Global, mut verifier: FailAt<Echo>, identity: &Text) -> bool {
+    let alg = JwsAlg::Hs256;
+    verifier.verify(alloc, alg, identity, b"in", b"ab") == Err(OutFault::Failed)
+        && verifier.verify(alloc, alg, identity, b"in", b"ab") == Ok(true)
+        && verifier.verify(alloc, alg, identity, b"in", b"abc") == Ok(false)
+}
+
+fn is_signer_failing(alloc: Global) -> bool {
+    match (Text::from_text(alloc, "ipx-a"), call_list(alloc, &[1])) {
+        (Ok(identity), Ok(fails)) => is_signing(alloc, FailAt::new(Echo, fails), &identity),
+        _ => false,
+    }
+}
+
+fn is_verifier_failing(alloc: Global) -> bool {
+    match (Text::from_text(alloc, "ipx-a"), call_list(alloc, &[0])) {
+        (Ok(identity), Ok(fails)) => is_verifying(alloc, FailAt::new(Echo, fails), &identity),
+        _ => false,
+    }
+}
+
 #[test]
-fn a_signer_and_a_verifier_fail_at_their_listed_calls(rt: HostRuntime) -> Result<(), Fail> {
-    let alloc = rt.alloc();
-    let identity = Text::from_text(alloc, "ipx-a").ok().ok_or("memory")?;
-    let mut signer = FailAt::new(Echo, calls(alloc, &[1])?);
-    for wanted in [
-        Ok(b"in".as_slice()),
-        Err(OutFault::Failed),
-        Ok(b"in".as_slice()),
-    ] {
-        assert!(rt; is_signed(signer.sign(alloc, &identity, b"in"), wanted));
-    }
-    assert!(rt; signer.alg() == JwsAlg::Hs256);
-    let mut verifier = FailAt::new(Echo, calls(alloc, &[0])?);
-    for (signature, wanted) in [
-        (b"ab".as_slice(), Err(OutFault::Failed)),
-        (b"ab".as_slice(), Ok(true)),
-        (b"abc".as_slice(), Ok(false)),
-    ] {
-        assert!(rt; verifier.verify(alloc, JwsAlg::Hs256, &identity, b"in", signature) == wanted);
-    }
-    Ok(())
+fn a_signer_and_a_verifier_fail_at_their_listed_calls(rt: HostRuntime) {
+    assert!(rt; is_signer_failing(rt.alloc()));
+    assert!(rt; is_verifier_failing(rt.alloc()));
 }
 
 /// Gives at most two bytes at a read, and fails once in mid-stream.
@@ -375,14 +415,18 @@ impl Read for BrokenReader {
     }
 }
 
+fn is_read_around_a_fault(mut source: StdSource<BrokenReader>) -> bool {
+    let mut room = [0u8; 4];
+    source.read(&mut room) == Ok(2)
+        && source.read(&mut room) == Err(Failed)
+        && source.read(&mut room) == Ok(1)
+        && source.read(&mut room) == Ok(0)
+        && room == *b"cb\0\0"
+}
+
 #[test]
 fn a_source_over_a_reader_fails_where_the_reader_does(rt: HostRuntime) {
-    let mut source = StdSource::new(BrokenReader { call: 0 });
-    let mut room = [0u8; 4];
-    for wanted in [Ok(2), Err(Failed), Ok(1), Ok(0)] {
-        assert!(rt; source.read(&mut room) == wanted);
-    }
-    assert!(rt; room == *b"cb\0\0");
+    assert!(rt; is_read_around_a_fault(StdSource::new(BrokenReader { call: 0 })));
 }
 
 /// Takes at most two bytes at a write, then nothing, then fails.
@@ -407,16 +451,15 @@ impl Write for SlowWriter {
     }
 }
 
+fn is_written_around_faults(mut sink: StdSink<SlowWriter>) -> bool {
+    sink.write(b"abc") == Ok(2)
+        && sink.write(b"c") == Err(OutFault::Failed)
+        && sink.write(b"c") == Err(OutFault::Failed)
+        && sink.write(b"") == Ok(0)
+        && sink.write(b"c") == Ok(1)
+}
+
 #[test]
 fn a_sink_over_a_writer_fails_where_nothing_is_taken(rt: HostRuntime) {
-    let mut sink = StdSink::new(SlowWriter { call: 0 });
-    for (piece, wanted) in [
-        (b"abc".as_slice(), Ok(2)),
-        (b"c".as_slice(), Err(OutFault::Failed)),
-        (b"c".as_slice(), Err(OutFault::Failed)),
-        (b"".as_slice(), Ok(0)),
-        (b"c".as_slice(), Ok(1)),
-    ] {
-        assert!(rt; sink.write(piece) == wanted);
-    }
+    assert!(rt; is_written_around_faults(StdSink::new(SlowWriter { call: 0 })));
 }

@@ -6,11 +6,13 @@ mod address;
 mod body;
 mod covering;
 mod mapping;
+mod message_mapping;
 mod modifiable;
 mod secret;
 
 pub use address::{Address, LinePart, address_text};
 pub use mapping::mapping_of;
+pub use message_mapping::mapping_for;
 pub use modifiable::is_modifiable;
 pub use policy_documents::{
     Element, ElementList, Grants, IeLoc, IeType, Mapping, MappingList, Names, Pattern, PatternList,

@@ -7,7 +7,7 @@ use Rattle.http_message.specs.Reading.{kind_view}
 use Rattle.jwe_flat.specs.View.{jwe_view, member_name}
 use Rattle.prins_document.specs.declared.document.WireDoc.{WireDoc}
 use Rattle.prins_document.specs.declared.document.WireMember.{WireMember}
-use Rattle.prins_document.specs.declared.document.WireMember.TheVariants.{Document, ReformattedData, Jwe, Block, ModificationsBlock}
+use Rattle.prins_document.specs.declared.document.WireMember.TheVariants.{Document, Jwe, Block, ModificationsBlock}
 use Rattle.prins_document.specs.declared.document.WireRead.{WireRead}
 use Rattle.prins_document.specs.declared.document.WireRead.TheVariants.{Form, NoMemory}
 
@@ -34,7 +34,6 @@ wire_view t w = parts_view (unwrap_or (entries_of t) []) w
 -- the name by which a refusal tells a part
 abbrev pub part_name : WireMember → List ℕ
 part_name Document = codes "document"
-part_name ReformattedData = codes "reformattedData"
 part_name (Jwe k) = member_name k
 part_name Block = codes "aad"
 part_name ModificationsBlock = codes "modificationsBlock"

@@ -10,7 +10,7 @@ ghost use Rattle.jwe_flat.specs.View.{jwe_view};
 ghost use Rattle.prins_document.specs.View.{part_told};
 
 use crate::document::{WireMember, WireRead};
-use jwe_flat::{FlatJwe, JweMember, JweRead, read_jwe};
+use jwe_flat::{FlatJwe, JweMember, JweRead, read_jwe_members};
 use n32_values::{Node, NodeMap};
 use std::alloc::Global;
 
@@ -30,7 +30,7 @@ pub(crate) fn data_in(map: &NodeMap) -> Result<&NodeMap, WireRead>
 {
     match map.get("reformattedData") {
         Some(Node::Members(data)) => Ok(data),
-        _ => Err(WireRead::Form(WireMember::ReformattedData)),
+        _ => Err(WireRead::Form(WireMember::Jwe(JweMember::Whole))),
     }
 }
 
@@ -38,7 +38,7 @@ pub(crate) fn data_in(map: &NodeMap) -> Result<&NodeMap, WireRead>
 pub(crate) fn read_data(alloc: Global, map: &NodeMap) -> Result<FlatJwe, WireRead>
     ensures { Gives part_told jwe_view result (jwe_in map.now) }
 {
-    match read_jwe(alloc, map) {
+    match read_jwe_members(alloc, map) {
         Ok(jwe) => Ok(jwe),
         Err(JweRead::Form(member)) => Err(WireRead::Form(WireMember::Jwe(member))),
         Err(JweRead::NoMemory) => Err(WireRead::NoMemory),

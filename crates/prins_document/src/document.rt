@@ -40,9 +40,7 @@ pub struct WireDoc {
 pub enum WireMember {
     /// The document is no object.
     Document,
-    /// `reformattedData` is absent or no object.
-    ReformattedData,
-    /// A member of the JWE (RFC 7516, section 7.2.2).
+    /// A member of the JWE `reformattedData` (RFC 7516, section 7.2.2), or the whole, which is absent or no object.
     Jwe(JweMember),
     /// The bytes of `aad` are no document, or one that is no object, or whose `metaData` is missing or
     /// out of the grammar.

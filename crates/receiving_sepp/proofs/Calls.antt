@@ -9,8 +9,8 @@ use Rattle.context_records.specs.Reading.{ReadsRecord, written}
 use Rattle.context_store.specs.Stores.{Stored, Holds, NamesBad}
 use Rattle.context_store.specs.declared.faults.OpenFault.{OpenFault}
 use Rattle.context_store.specs.declared.faults.OpenFault.TheVariants as opening
-use Rattle.context_calls.specs.Changes.{PutBy, with_room}
-use Rattle.context_calls.proofs.Calls.{roomy, recorded, untold, bad_record, unread, refused, put}
+use Rattle.context_store.specs.Changes.{PutBy, with_room}
+use Rattle.context_store.proofs.Calls.{roomy, recorded, untold, bad_record, unread, refused, put}
 use Rattle.spec_exchange.specs.ReceivingRefusals.{NoRoom}
 use Rattle.spec_exchange.specs.FirstFailed.{Delivery, first_failed}
 use Rattle.spec_exchange.specs.Calls.{delivered_record}

@@ -1,5 +1,5 @@
 -- A JWE that isn't opened, as a refusal.
-use Rattle.std.proofs.Common.{◌≡◌, Option, Some, None, Result, Ok, Err, List, ℕ, refl}
+use Rattle.std.proofs.Common.{◌≡◌, Option, Some, None, List, ℕ, refl}
 use Rattle.spec_messages.specs.Message.{wanted}
 use Rattle.spec_exchange.specs.Chain.{◌>>=◌, none_of, or_refused}
 use Rattle.spec_sealing.specs.Suites.{ContentKey}

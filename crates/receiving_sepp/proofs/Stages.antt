@@ -6,9 +6,9 @@ use Rattle.spec_documents.specs.Gives.{Tells}
 use Rattle.spec_documents.proofs.Chains.{bind_at, tells_on, tells_past}
 use Rattle.spec_records.specs.Records.{Record}
 use Rattle.spec_sealing.specs.Received.{Received}
-use Rattle.context_calls.specs.Changes.{with_room}
+use Rattle.context_store.specs.Changes.{with_room}
 use Rattle.spec_exchange.specs.ReceivingRefusals.{Refusal, NoRoom}
-use Rattle.spec_exchange.specs.Rebuilding.{mapping_of_head}
+use Rattle.spec_messages.specs.HeadMapping.{mapping_of_head}
 use Rattle.spec_messages.specs.Policy.{Policy}
 use Rattle.spec_exchange.specs.FirstFailed.{Delivery, Rebuilt, delivery_at, first_failed, first_failed_of, formed, has_room, is_first, is_sealed, key_for, keyed_context, opens, rebuilt}
 use Rattle.receiving_sepp.specs.Groups.{Unsealed, Revealed, unsealed, revealed}

@@ -7,7 +7,7 @@ use Rattle.spec_messages.specs.Policy.{Policy}
 use Rattle.spec_records.specs.Records.{Context, Record}
 use Rattle.spec_sealing.specs.Jwe.{Jwe}
 use Rattle.spec_exchange.specs.FirstFailed.{keyed_context, key_for, opens, is_first, rebuilt, is_sealed}
-use Rattle.spec_exchange.specs.Rebuilding.{mapping_of_head}
+use Rattle.spec_messages.specs.HeadMapping.{mapping_of_head}
 use Rattle.spec_exchange.specs.ReceivingRefusals.{Refusal}
 
 -- what a JWE opens to, with the context under which it was sealed

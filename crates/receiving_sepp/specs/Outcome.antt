@@ -5,7 +5,7 @@ use Rattle.spec_documents.specs.Gives.{Tells}
 use Rattle.spec_records.specs.Records.{Record}
 use Rattle.http_message.specs.Reading.{kind_view, message_view}
 use Rattle.context_store.specs.Stores.{Stored}
-use Rattle.context_calls.specs.Changes.{Nothing, CallBy, PutBy, with_room}
+use Rattle.context_store.specs.Changes.{Nothing, CallBy, PutBy, with_room}
 use Rattle.spec_exchange.specs.ReceivingRefusals.{Refusal, NoRoom}
 use Rattle.spec_exchange.specs.Outside.{Cause}
 use Rattle.spec_exchange.specs.FirstFailed.{Delivery, first_failed}

@@ -15,13 +15,13 @@ ghost use Rattle.receiving_sepp.specs.Views.{keyed_view, unsealed_view};
 
 use crate::faults::CheckFault;
 use crate::refused::Refused;
-use context_calls::{keys_fit_suite, receive_key};
-use context_records::{Context, KeySet};
+use context_records::{Context, KeySet, receive_key};
 use context_store::Store;
 use http_message::Kind;
 use jwe_flat::{ContentKey, FlatJwe, JweOpen, open_jwe};
 use n32_values::{Bytes, Hex64, Text};
 use prins_document::WireDoc;
+use spec_records::records::keys_fit_suite;
 use std::alloc::Global;
 
 // An open context, and its keys.

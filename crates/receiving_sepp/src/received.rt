@@ -22,7 +22,7 @@ fn word_of(member: WireMember) -> &'static str
 {
     match member {
         WireMember::Document => "document",
-        WireMember::ReformattedData => "reformattedData",
+        WireMember::Jwe(JweMember::Whole) => "reformattedData",
         WireMember::Jwe(JweMember::Protected) => "protected",
         WireMember::Jwe(JweMember::Aad) => "aad",
         WireMember::Jwe(JweMember::Iv) => "iv",

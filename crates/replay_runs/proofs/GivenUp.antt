@@ -6,7 +6,7 @@ use Rattle.spec_exchange.specs.Outside.{Choice, Reading, Read, ReadFails, BadRec
 use Rattle.spec_script.specs.Events.{line_event}
 use Rattle.spec_script.specs.Steps.{Step, line_step}
 use Rattle.context_store.specs.Stores.{AreRecords}
-use Rattle.context_calls.specs.Changes.{Keeps}
+use Rattle.context_store.specs.Changes.{Keeps}
 use Rattle.replay_world.specs.declared.world.World.{World}
 use Rattle.replay_world.specs.Worlds.{TellsRecords, sites_view, state_of}
 use Rattle.replay_world.specs.Stepping.{GivesUp, StepBy, HasPut}

@@ -26,7 +26,7 @@ use Rattle.script_answers.specs.Texts as texts
 use Rattle.script_answers.specs.View.{refusal_view}
 use Rattle.script_answers.specs.declared.refusal.Refusal.{Refusal}
 use Rattle.script_answers.specs.declared.refusal.Refusal.TheVariants as refusals
-use Rattle.context_calls.specs.Changes.{CallBy}
+use Rattle.context_store.specs.Changes.{CallBy}
 use Rattle.replay_world.specs.Refusing.{of_sending, of_receiving}
 use Rattle.replay_world.specs.Worlds.{sites_view, state_of}
 use Rattle.replay_world.specs.Stepping.{Makes, HasPut, GivesUp, Tells, Comes, StoreStays, Idles}

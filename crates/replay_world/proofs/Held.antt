@@ -6,7 +6,7 @@ use Rattle.n32_values.specs.declared.memory.NoMemory.{NoMemory}
 use Rattle.spec_records.specs.Records.{Record}
 use Rattle.context_records.specs.Reading.{ReadsRecord, written}
 use Rattle.context_store.specs.Stores.{AreRecords, IsFirstBad}
-use Rattle.context_calls.specs.Changes.{Keeps}
+use Rattle.context_store.specs.Changes.{Keeps}
 use Rattle.spec_exchange.specs.Outside.{Choice, Reading, Read, ReadFails, BadRecord, with_put}
 use Rattle.spec_script.specs.Events.{line_event}
 use Rattle.spec_script.specs.Steps as spec

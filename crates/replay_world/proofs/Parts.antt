@@ -3,7 +3,7 @@ use Rattle.std.proofs.Common.{◌≡◌, ⊎_elim, ℕ, ◌≤◌, List, [], len
 use Rattle.spec_records.specs.Records.{Record, record_limit}
 use Rattle.n32_outside.specs.Contents.{Stays}
 use Rattle.context_store.specs.Stores.{Stored, Holds, IsConsistent}
-use Rattle.context_calls.specs.Changes.{Change, CallBy}
+use Rattle.context_store.specs.Changes.{Change, CallBy}
 use Rattle.spec_exchange.specs.Outside.{Choice, Cause, no_fault, Read, ReadFails, Putting, Lost, Outcome}
 use Rattle.spec_script.specs.Refusals as script
 use Rattle.spec_script.specs.Steps.{State, Answer, Step, refuses, with_sent}

@@ -14,9 +14,9 @@ use Rattle.spec_sealing.specs.Suites.{content_key}
 use Rattle.spec_sealing.specs.Jwe.{Jwe, sealed}
 use Rattle.spec_sealing.specs.Plaintext.{plaintext}
 use Rattle.spec_sealing.specs.Received.{carrier}
-use Rattle.spec_exchange.specs.Nonce.{nonce}
+use Rattle.spec_records.specs.Keys.{nonce, send_key}
 use Rattle.spec_exchange.specs.Outside.{Reading, Read, ReadFails, BadRecord, Putting, Kept, Lost, KeptUntold, puts, behind_reading, or_refusal}
-use Rattle.spec_exchange.specs.Calls.{Sealed, Outgoing, Asks, protected, sent_record, sealed_document, sent_block_of, message_id, send_key, kind_of_outgoing}
+use Rattle.spec_exchange.specs.Calls.{Sealed, Outgoing, Asks, protected, sent_record, sealed_document, sent_block_of, message_id, kind_of_outgoing}
 use Rattle.spec_script.specs.Refusals.{Refusal, BadEvent, NotBuilt}
 use Rattle.spec_script.specs.Messages.{message_in}
 use Rattle.spec_script.specs.Steps.{is_response, request_to_send}

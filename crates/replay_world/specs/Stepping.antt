@@ -5,7 +5,7 @@ use Rattle.spec_records.specs.Records.{Record, record_limit}
 use Rattle.n32_outside.specs.Contents.{Stays}
 use Rattle.n32_values.specs.declared.memory.NoMemory.{NoMemory}
 use Rattle.context_store.specs.Stores.{Stored, Holds, IsFirstBad}
-use Rattle.context_calls.specs.Changes.{Keeps, Change}
+use Rattle.context_store.specs.Changes.{Keeps, Change}
 use Rattle.spec_exchange.specs.Outside.{Choice, Read, BadRecord}
 use Rattle.spec_script.specs.Steps.{State, Answer, Step, Refuses, with_sent, line_step}
 use Rattle.spec_script.specs.Answers.{answer_text}

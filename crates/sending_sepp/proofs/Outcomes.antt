@@ -8,8 +8,8 @@ use Rattle.n32_outside.specs.Contents.{Stays}
 use Rattle.context_store.specs.Stores.{Stored, Holds, NamesBad}
 use Rattle.context_store.specs.declared.faults.OpenFault.{OpenFault}
 use Rattle.context_store.specs.declared.faults.OpenFault.TheVariants as opening
-use Rattle.context_calls.specs.Changes.{with_room}
-use Rattle.context_calls.proofs.Calls as calls
+use Rattle.context_store.specs.Changes.{with_room}
+use Rattle.context_store.proofs.Calls as calls
 use Rattle.spec_messages.specs.Limits.{many_records}
 use Rattle.spec_exchange.specs.SendingRefusals.{Beyond}
 use Rattle.spec_exchange.specs.Calls.{Sealed, Asks, sent_record, protected}

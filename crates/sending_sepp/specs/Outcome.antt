@@ -5,7 +5,7 @@ use Rattle.spec_documents.specs.Gives.{Tells}
 use Rattle.spec_messages.specs.Message.{Message, of_request}
 use Rattle.spec_records.specs.Records.{Record}
 use Rattle.context_store.specs.Stores.{Stored}
-use Rattle.context_calls.specs.Changes.{Nothing, CallBy, with_room, PutBy}
+use Rattle.context_store.specs.Changes.{Nothing, CallBy, with_room, PutBy}
 use Rattle.spec_messages.specs.Limits.{many_records}
 use Rattle.spec_exchange.specs.SendingRefusals.{Refusal, Beyond}
 use Rattle.spec_exchange.specs.Outside.{Cause}

@@ -13,11 +13,12 @@ ghost use Rattle.sending_sepp.specs.Outcome.{ChecksOut};
 
 use crate::fault::{CheckFault, SendFault};
 use crate::sealing::sent_document;
-use context_calls::{keys_fit_suite, mapping_for};
 use context_records::{Context, KeySet};
 use context_store::Store;
 use http_message::{Kind, Message};
 use n32_values::{Doc, Hex64, Text};
+use policy_tables::mapping_for;
+use spec_records::records::keys_fit_suite;
 use std::alloc::Global;
 
 /// A sealed request, and what its record says.

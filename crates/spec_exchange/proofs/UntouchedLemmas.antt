@@ -23,15 +23,16 @@ use Rattle.spec_exchange.specs.Chain.{or_refused, none_of, unless}
 use Rattle.spec_documents.specs.Reading.{document_of}
 use Rattle.spec_sealing.specs.Received.{block_in, if_has_meta, metadata_of, kind_in, received, carrier}
 use Rattle.spec_sealing.specs.Plaintext.{values_of, plaintext}
-use Rattle.spec_exchange.specs.Rebuilding.{no_values, no_block, no_fill, of_block, read_block, unless_fault, filled_with, mapping_of_head, in_clear}
+use Rattle.spec_exchange.specs.Rebuilding.{no_values, no_block, no_fill, of_block, read_block, unless_fault, filled_with, in_clear}
 use Rattle.spec_exchange.specs.Calls.{metadata_for, sent_block_of, split_limit, sealed_document, Sealed, Asks, protected}
 use Rattle.spec_messages.specs.Limits.{Limit, many_headers, many_items, many_values, long_block}
 use Rattle.spec_exchange.specs.ReceivingRefusals.{Form, NoContext, NoReceiveKeys, Cipher, Integrity, Replay, Reconstruction, InClear, NoRoom}
 use Rattle.spec_exchange.specs.SendingRefusals.{Refusal, ContextNotFound, NoKeys}
-use Rattle.spec_exchange.specs.FirstFailed.{receive_key, KeyedContext, Rebuilt, rebuilt, first_failed_of, first_failed}
+use Rattle.spec_exchange.specs.FirstFailed.{KeyedContext, Rebuilt, rebuilt, first_failed_of, first_failed}
 use Rattle.spec_sealing.specs.Suites.{ContentKey, content_key}
 use Rattle.spec_sealing.specs.Jwe.{Jwe, misfit, opened, sealed}
-use Rattle.spec_exchange.specs.Nonce.{nonce}
+use Rattle.spec_messages.specs.HeadMapping.{mapping_of_head}
+use Rattle.spec_records.specs.Keys.{nonce, receive_key}
 use Rattle.spec_exchange.specs.Untouched.{mapping_under, block_under, values_under, IsSendable, HasNames, AreValues, IsReady, delivery_of}
 use Rattle.spec_documents.proofs.Below as below
 use Rattle.spec_documents.proofs.Below.{same_below}

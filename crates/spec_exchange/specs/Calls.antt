@@ -8,14 +8,14 @@ use Rattle.spec_messages.specs.Policy.{values}
 use Rattle.spec_messages.specs.Split.{cleared}
 use Rattle.spec_messages.specs.Block.{Meta, Block, block_of, block_tree, at_most}
 use Rattle.spec_messages.specs.Fault.{first_of, when}
-use Rattle.spec_records.specs.Records.{OneKey, KeySet, Context, Record, Sent, Delivered, record_limit, open_context, keys, mapping_delivered, answered, next_seq}
+use Rattle.spec_messages.specs.HeadMapping.{mapping_of_head}
+use Rattle.spec_records.specs.Keys.{nonce, send_key}
+use Rattle.spec_records.specs.Records.{OneKey, Context, Record, Sent, Delivered, record_limit, open_context, keys, mapping_delivered, answered, next_seq}
 use Rattle.spec_exchange.specs.Chain.{◌>>=◌, unless, none_of}
 use Rattle.spec_sealing.specs.Suites.{content_key}
 use Rattle.spec_sealing.specs.Jwe.{sealed}
 use Rattle.spec_sealing.specs.Plaintext.{plaintext}
 use Rattle.spec_sealing.specs.Received.{carrier}
-use Rattle.spec_exchange.specs.Nonce.{nonce}
-use Rattle.spec_exchange.specs.Rebuilding.{mapping_of_head}
 use Rattle.spec_messages.specs.Limits.{Limit, many_headers, many_items, many_values, long_block, many_records}
 use Rattle.spec_exchange.specs.SendingRefusals.{Refusal, Beyond, ContextNotFound, NoKeys, NoRequest, Answered, SeqSpent}
 use Rattle.spec_exchange.specs.ReceivingRefusals as receiving
@@ -46,10 +46,6 @@ kind_of_outgoing (Replies to) = of_response
 abbrev pub message_id : Outgoing → ℕ → ℕ
 message_id Asks seq = seq
 message_id (Replies to) seq = to
-
-abbrev pub send_key : Kind → KeySet → OneKey
-send_key of_request k = k.send_request
-send_key of_response k = k.send_response
 
 -- the mapping for the message: for a reply that of the request, which was delivered and has no reply yet
 abbrev pub mapping_to_send : Outgoing → Context → Message → List Record → (node : List ℕ) → (id : ℕ) → Result (Option ℕ) Refusal

@@ -3,13 +3,15 @@ use Rattle.std.specs.Prelude.{ℕ, List, length, Bool, false, true, ◌||◌, na
 use Rattle.spec_documents.specs.Tree.{Tree}
 use Rattle.spec_messages.specs.Message.{Message, Kind, of_request, of_response, wanted}
 use Rattle.spec_messages.specs.Policy.{Policy}
-use Rattle.spec_records.specs.Records.{OneKey, KeySet, Context, Record, record_limit, open_context, keys, delivered_at}
+use Rattle.spec_messages.specs.HeadMapping.{mapping_of_head}
+use Rattle.spec_records.specs.Keys.{receive_key}
+use Rattle.spec_records.specs.Records.{KeySet, Context, Record, record_limit, open_context, keys, delivered_at}
 use Rattle.spec_exchange.specs.Chain.{◌>>=◌, unless, none_of, or_refused}
 use Rattle.spec_sealing.specs.Suites.{ContentKey, content_key}
 use Rattle.spec_sealing.specs.Jwe.{Jwe, misfit, opened}
 use Rattle.spec_sealing.specs.Plaintext.{values_of}
 use Rattle.spec_sealing.specs.Received.{Received, received}
-use Rattle.spec_exchange.specs.Rebuilding.{no_values, no_block, no_fill, read_block, filled_with, mapping_of_head, in_clear}
+use Rattle.spec_exchange.specs.Rebuilding.{no_values, no_block, no_fill, read_block, filled_with, in_clear}
 use Rattle.spec_exchange.specs.ReceivingRefusals.{Refusal, Form, NotBuilt, NoContext, NoReceiveKeys, Cipher, Integrity, Replay, Reconstruction, InClear, NoRoom}
 
 -- what is delivered, with what its record needs
@@ -20,11 +22,6 @@ pub record Delivery : Type 0 where
   pub kind : Kind
   pub message : ℕ
   pub mapping : Option ℕ
-
--- the key under which a peer sends messages of the kind
-abbrev pub receive_key : Kind → KeySet → OneKey
-receive_key of_request k = k.receive_request
-receive_key of_response k = k.receive_response
 
 abbrev pub is_response : Kind → Bool
 is_response of_request = false

@@ -1,5 +1,4 @@
 pub use Rattle.spec_documents.specs.Chain
-pub mod Nonce
 pub mod Rebuilding
 pub mod Telling
 pub mod RebuildTexts

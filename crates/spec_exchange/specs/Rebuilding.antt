@@ -3,8 +3,8 @@ use Rattle.std.specs.Prelude.{ℕ, List, [], ◌∷◌, Bool, true, false, not, 
 use Rattle.spec_documents.specs.Tree.{Tree}
 use Rattle.spec_documents.specs.Place.{Pointer, at, if_ok}
 use Rattle.spec_documents.specs.Hole.{goes_into, is_marked}
-use Rattle.spec_messages.specs.Message.{Part, clear, hole_part, Head, request, response, Message}
-use Rattle.spec_messages.specs.Policy.{Policy, Spot, segment_spot, pair_spot, header_spot, body_spot, Address, mapping_of, secret_places, spot_address, query_pairs}
+use Rattle.spec_messages.specs.Message.{Part, clear, hole_part, Message}
+use Rattle.spec_messages.specs.Policy.{Policy, Spot, segment_spot, pair_spot, header_spot, body_spot, Address, secret_places, spot_address, query_pairs}
 use Rattle.spec_messages.specs.Changed.{segments_in}
 use Rattle.spec_messages.specs.Split.{fill_whole}
 use Rattle.spec_messages.specs.Block.{clear_message}
@@ -36,12 +36,6 @@ pub data RebuildWhy : Type 0 where
   no_values : RebuildWhy
   no_block : BlockFault → RebuildWhy
   no_fill : FillFault → RebuildWhy
-
--- ---- the mapping of a request
-
-abbrev pub mapping_of_head : Policy → Head → Option ℕ
-mapping_of_head pol (request l) = mapping_of pol l
-mapping_of_head pol (response s) = None
 
 -- ---- what stands in clear
 

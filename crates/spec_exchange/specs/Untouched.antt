@@ -13,8 +13,8 @@ use Rattle.spec_sealing.specs.Suites.{content_key}
 use Rattle.spec_sealing.specs.Jwe.{sealed}
 use Rattle.spec_sealing.specs.Forms.{HasParts}
 use Rattle.spec_sealing.specs.Plaintext.{plaintext}
-use Rattle.spec_exchange.specs.Nonce.{nonce}
-use Rattle.spec_exchange.specs.Rebuilding.{mapping_of_head}
+use Rattle.spec_records.specs.Keys.{nonce}
+use Rattle.spec_messages.specs.HeadMapping.{mapping_of_head}
 use Rattle.spec_exchange.specs.FirstFailed.{Delivery}
 use Rattle.spec_exchange.specs.Calls.{authorized, sent_block_of, split_limit}
 

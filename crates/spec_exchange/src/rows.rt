@@ -16,7 +16,7 @@ ghost use Rattle.spec_sealing.specs.Jwe.{Jwe, misfit, opened};
 ghost use Rattle.spec_sealing.specs.Plaintext.{values_of};
 ghost use Rattle.spec_sealing.specs.Received.{received};
 ghost use Rattle.spec_exchange.specs.Rebuilding.{no_values, no_block, no_fill, in_clear};
-ghost use Rattle.spec_exchange.specs.Nonce.{nonce};
+ghost use Rattle.spec_records.specs.Keys.{nonce};
 ghost use Rattle.spec_exchange.specs.Untouched.{block_under, values_under};
 ghost use Rattle.spec_exchange.specs.ReceivingRefusals.{Form, NotBuilt, NoContext, NoReceiveKeys, Cipher, Integrity, Replay, Reconstruction, InClear, NoRoom};
 ghost use Rattle.spec_exchange.specs.SendingRefusals.{ContextNotFound, NoKeys, SeqSpent, NoRequest, Answered};

@@ -1,5 +1,6 @@
 pub mod Message
 pub mod Policy
+pub mod HeadMapping
 pub mod PolicyDocument
 pub mod AddressText
 pub mod Split

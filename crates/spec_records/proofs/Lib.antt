@@ -1,4 +1,5 @@
 pub mod RecordLemmas
 pub mod RecordReading
+pub mod Fitting
 pub mod NameLemmas
 pub mod RecordDepth

@@ -1,3 +1,4 @@
 pub mod Records
+pub mod Keys
 pub mod RecordDocument
 pub mod RecordRows

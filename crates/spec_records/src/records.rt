@@ -1,9 +1,9 @@
 //! The records of contexts, and their documents.
 
-ghost use Rattle.std.specs.Prelude.{◌≡◌, ◌≤◌, ℕ, List, [], ◌∷◌, ◌++◌, Bool, true, false, Option, Some, None, is_some, Ok, IsTrue};
-ghost use Rattle.spec_documents.specs.Tree.{Tree, depth};
+ghost use Rattle.std.specs.Prelude.{◌≡◌, ◌≤◌, ℕ, List, [], ◌∷◌, ◌++◌, true, false, Some, is_some, Ok, IsTrue};
+ghost use Rattle.spec_documents.specs.Tree.{depth};
 ghost use Rattle.spec_messages.specs.Message.{Kind};
-ghost use Rattle.spec_records.specs.Records.{Record, Context, is_of, own, used, offered, opening, closed, open_context, keys, mapping_sent, mapping_delivered, answered, was_delivered, was_sent, delivered_at, next_seq};
+ghost use Rattle.spec_records.specs.Records.{Record, Context, KeySet, is_of, own, used, opening, open_context, keys, keys_fit, mapping_sent, mapping_delivered, answered, was_delivered, was_sent, delivered_at, next_seq};
 ghost use Rattle.spec_records.specs.RecordDocument.{record_of, record_tree, is_well_named, HasRange};
 
 /// The document of a record nests a few levels deep, and is read to this record where its names are in their grammar.
@@ -20,6 +20,11 @@ pub fn used_stays()
 /// The first opening of a context stays its first.
 pub fn opening_stays()
     ensures { (node : List ℕ) (id : ℕ) (first more : List Record) (x : Context) → opening node id first ≡ Some x → opening node id (first ++ more) ≡ Some x }
+{}
+
+/// The keys of an open context fit its suite.
+pub fn keys_fit_suite()
+    ensures { (node : List ℕ) (id : ℕ) (records : List Record) (x : Context) (k : KeySet) → open_context node id records ≡ Some x → keys node id records ≡ Some k → IsTrue (keys_fit x.suite k) }
 {}
 
 /// The next sequence number of a kind was never sent.

@@ -1,10 +1,10 @@
 //! Worked examples, by computation.
 
-ghost use Rattle.std.specs.Prelude.{◌≡◌, ℕ, List, [], ◌∷◌, Bool, true, false, Option, Some, None, Ok, Err, codes};
+ghost use Rattle.std.specs.Prelude.{◌≡◌, [], ◌∷◌, true, false, Some, None, Err, codes};
 ghost use Rattle.spec_documents.specs.Compact.{compact_text};
 ghost use Rattle.spec_messages.specs.Message.{of_request, of_response};
-ghost use Rattle.spec_records.specs.Records.{Offered, Opened, Closed, used, open_context, opening, keys, next_seq, delivered_at, mapping_sent, mapping_delivered, answered};
-ghost use Rattle.spec_records.specs.RecordDocument.{NoRecord, no_record, record_of, record_tree};
+ghost use Rattle.spec_records.specs.Records.{Offered, Opened, Closed, used, open_context, keys, next_seq, delivered_at, mapping_sent, mapping_delivered, answered};
+ghost use Rattle.spec_records.specs.RecordDocument.{no_record, record_of, record_tree};
 ghost use Rattle.spec_records.specs.RecordRows.{opened_twice, busy, context_with, keyed, keys_from, sent, delivered, with_further};
 
 /// The first opening counts, and the keys behind it that fit; a closed context is not open.

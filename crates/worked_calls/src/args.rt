@@ -41,14 +41,6 @@ impl<'a> Args<'a> {
         }
     }
 
-    /// The members of the object of this name, or of that which it names.
-    pub fn object(self, name: &str) -> Option<&'a NodeMap> {
-        match self.document(name) {
-            Some(Node::Members(members)) => Some(members),
-            _ => None,
-        }
-    }
-
     /// The text of this name.
     pub fn text(self, name: &str) -> Option<&'a str> {
         match self.row.get(name) {

@@ -45,12 +45,13 @@ pub fn member_word(member: JweMember) -> &'static str {
         JweMember::EncryptedKey => "encrypted_key",
         JweMember::Unprotected => "unprotected",
         JweMember::Header => "header",
+        JweMember::Whole => "reformattedData",
     }
 }
 
-/// The document of the JWE that the object `jwe` is read to, or the first bad member.
+/// The document of the JWE that `jwe` is read to, or the first bad member.
 pub fn read_jwe_call(alloc: Global, args: Args<'_>) -> Option<Node> {
-    match read_jwe(alloc, args.object("jwe")?) {
+    match read_jwe(alloc, args.document("jwe")?) {
         Ok(jwe) => written(alloc, jwe),
         Err(JweRead::Form(member)) => fault_node(alloc, member_word(member)),
         Err(JweRead::NoMemory) => None,
@@ -85,7 +86,7 @@ fn read_and_opened(alloc: Global, jwe: FlatJwe, key: &str) -> Option<Node> {
 /// The text that the JWE of a document is opened to, or why it isn't opened.
 pub fn open_jwe_call(alloc: Global, args: Args<'_>) -> Option<Node> {
     let key = args.text("key")?;
-    match read_jwe(alloc, args.object("jwe")?) {
+    match read_jwe(alloc, args.document("jwe")?) {
         Ok(jwe) => read_and_opened(alloc, jwe, key),
         Err(_) => None,
     }

@@ -15,7 +15,6 @@ use std::alloc::Global;
 fn part_word(part: WireMember) -> &'static str {
     match part {
         WireMember::Document => "document",
-        WireMember::ReformattedData => "reformattedData",
         WireMember::Jwe(member) => member_word(member),
         WireMember::Block => "block",
         WireMember::ModificationsBlock => "modificationsBlock",

@@ -1,4 +1,4 @@
-use Rattle.std.proofs.Common.{◌≡◌, ℕ, length, take, drop, ◌++◌, None, Ok, sym, ap, ◌∙◌, rules}
+use Rattle.std.proofs.Common.{◌≡◌, length, take, drop, ◌++◌, None, Ok, sym, ap, ◌∙◌, rules}
 use Rattle.std.proofs.Math.Seq.{take-append_seam}
 use Rattle.spec_sealing.specs.Jwe.{Jwe, before_aad, misfit}
 use Rattle.jwe_flat.specs.View.{content_key_view, jwe_view}

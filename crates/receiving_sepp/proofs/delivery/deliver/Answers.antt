@@ -1,7 +1,7 @@
 use Rattle.std.proofs.Common.{Err, refl, ap, inl}
 use Rattle.spec_records.specs.Records.{Delivered}
 use Rattle.http_message.specs.Reading.{kind_view}
-use Rattle.context_calls.proofs.Calls.{no_room}
+use Rattle.context_store.proofs.Calls.{no_room}
 use Rattle.spec_exchange.specs.Calls.{delivered_record}
 use Rattle.receiving_sepp.specs.Outcome.{Answers, delivery_view}
 use Rattle.spec_exchange.specs.ReceivingRefusals.{NoRoom}

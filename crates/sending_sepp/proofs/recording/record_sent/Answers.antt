@@ -2,7 +2,7 @@ use Rattle.std.proofs.Common.{refl, inl, Ok, Err}
 use Rattle.block_forms.specs.declared.fault.LimitName.TheVariants as limits
 use Rattle.spec_messages.specs.Limits.{many_records}
 use Rattle.spec_exchange.specs.SendingRefusals.{Beyond}
-use Rattle.context_calls.proofs.Calls.{recorded, no_room, untold}
+use Rattle.context_store.proofs.Calls.{recorded, no_room, untold}
 use Rattle.spec_exchange.specs.Calls.{sent_record}
 use Rattle.sending_sepp.specs.Outcome.{Answers, sealed_view}
 use Rattle.sending_sepp.specs.declared.fault.SendFault.TheVariants as faults

@@ -1,22 +1,15 @@
-// The keys and nonces of a context.
-ghost use Rattle.std.specs.Prelude.{◌≡◌, ℕ, List, Some, IsTrue};
-ghost use Rattle.spec_records.specs.Records.{KeySet as Keys, Context, Record, key_fits, keys_fit, keys, open_context};
+// The keys and nonces of a context's messages.
+ghost use Rattle.std.specs.Prelude.{◌≡◌, IsTrue};
+ghost use Rattle.spec_records.specs.Keys as keys_of;
+ghost use Rattle.spec_records.specs.Records.{key_fits, keys_fit};
 ghost use Rattle.http_message.specs.Reading.{kind_view};
-ghost use Rattle.context_records.specs.View.{key_set_view, one_key_view, suite_view};
-ghost use Rattle.spec_exchange.specs.Calls as calls;
-ghost use Rattle.spec_exchange.specs.FirstFailed as exchange;
-ghost use Rattle.spec_exchange.specs.Nonce.{nonce};
 ghost use Rattle.spec_sealing.specs.Suites.{content_key};
 ghost use Rattle.jwe_flat.specs.View.{content_key_view};
+ghost use Rattle.context_records.specs.View.{key_set_view, one_key_view, suite_view};
 
-use context_records::{KeySet, OneKey};
+use crate::context::{KeySet, OneKey};
 use http_message::Kind;
 use jwe_flat::{ContentKey, Suite};
-
-/// The keys of an open context fit its suite.
-pub fn keys_fit_suite()
-    ensures { (node : List ℕ) (id : ℕ) (records : List Record) (x : Context) (k : Keys) → open_context node id records ≡ Some x → keys node id records ≡ Some k → IsTrue (keys_fit x.suite k) }
-{}
 
 // A key that fits a suite is the suite's.
 fn fitting(suite: Suite, key: &OneKey) -> &ContentKey
@@ -31,7 +24,7 @@ fn fitting(suite: Suite, key: &OneKey) -> &ContentKey
 }
 
 fn sending(keys: &KeySet, kind: Kind) -> &OneKey
-    ensures { one_key_view result.now ≡ calls.send_key (kind_view kind) (key_set_view keys.now) }
+    ensures { one_key_view result.now ≡ keys_of.send_key (kind_view kind) (key_set_view keys.now) }
 {
     match kind {
         Kind::Request => &keys.send_request,
@@ -40,7 +33,7 @@ fn sending(keys: &KeySet, kind: Kind) -> &OneKey
 }
 
 fn receiving(keys: &KeySet, kind: Kind) -> &OneKey
-    ensures { one_key_view result.now ≡ exchange.receive_key (kind_view kind) (key_set_view keys.now) }
+    ensures { one_key_view result.now ≡ keys_of.receive_key (kind_view kind) (key_set_view keys.now) }
 {
     match kind {
         Kind::Request => &keys.receive_request,
@@ -51,7 +44,7 @@ fn receiving(keys: &KeySet, kind: Kind) -> &OneKey
 /// The key that messages of the kind are sealed under. The keys must fit the suite, as those of an open context do.
 pub fn send_key(suite: Suite, keys: &KeySet, kind: Kind) -> &ContentKey
     requires { IsTrue (keys_fit (suite_view suite) (key_set_view keys.now)) }
-    ensures { content_key_view result.now ≡ content_key (suite_view suite) (calls.send_key (kind_view kind) (key_set_view keys.now)).key }
+    ensures { content_key_view result.now ≡ content_key (suite_view suite) (keys_of.send_key (kind_view kind) (key_set_view keys.now)).key }
 {
     fitting(suite, sending(keys, kind))
 }
@@ -60,7 +53,7 @@ pub fn send_key(suite: Suite, keys: &KeySet, kind: Kind) -> &ContentKey
 /// context do.
 pub fn receive_key(suite: Suite, keys: &KeySet, kind: Kind) -> &ContentKey
     requires { IsTrue (keys_fit (suite_view suite) (key_set_view keys.now)) }
-    ensures { content_key_view result.now ≡ content_key (suite_view suite) (exchange.receive_key (kind_view kind) (key_set_view keys.now)).key }
+    ensures { content_key_view result.now ≡ content_key (suite_view suite) (keys_of.receive_key (kind_view kind) (key_set_view keys.now)).key }
 {
     fitting(suite, receiving(keys, kind))
 }
@@ -68,7 +61,7 @@ pub fn receive_key(suite: Suite, keys: &KeySet, kind: Kind) -> &ContentKey
 /// The nonce of a message of the kind: the salt of the sending key, and the sequence number as four bytes, the
 /// greatest first (TS 33.501 clause 13.2.4.4.2 in outline).
 pub fn send_nonce(keys: &KeySet, kind: Kind, seq: u32) -> [u8; 12]
-    ensures { result ≡ nonce (calls.send_key (kind_view kind) (key_set_view keys.now)) seq }
+    ensures { result ≡ keys_of.nonce (keys_of.send_key (kind_view kind) (key_set_view keys.now)) seq }
 {
     let salt = &sending(keys, kind).salt;
     let [a, b, c, d] = seq.to_be_bytes();

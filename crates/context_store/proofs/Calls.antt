@@ -7,7 +7,7 @@ use Rattle.context_records.specs.Reading.{ReadsRecord, written}
 use Rattle.context_store.specs.Stores.{Stored, Holds, IsFirstBad}
 use Rattle.spec_exchange.specs.Chain.{◌>>=◌}
 use Rattle.spec_exchange.specs.Outside.{Choice, Read, ReadFails, BadRecord, Kept, Lost, KeptUntold, Journal, Keeper, Cause, Own, Outside, Outcome, puts, behind_reading, or_refusal}
-use Rattle.context_calls.specs.Changes.{ComesTo, CallBy, with_room, putting, PutBy}
+use Rattle.context_store.specs.Changes.{ComesTo, CallBy, with_room, putting, PutBy}
 
 -- a call that checks over the records, once they are read, and puts the record of what passes
 abbrev pub checked : {X R : Type 0} → (List Record → Result X R) → (X → Record) → Choice → List Record → Outcome R X
