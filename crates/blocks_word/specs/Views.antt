@@ -1,7 +1,7 @@
 -- What the values of this crate are in the words of the definitions.
 use Rattle.std.specs.Prelude.{◌≡◌, Option, Some, None}
 use Rattle.spec_script.specs.Refusals.{Refusal}
-use Rattle.script_answers.specs.View.{refusal_view}
+use Rattle.script_lines.specs.View.{refusal_view}
 use Rattle.blocks_word.specs.declared.answering.Unanswered.{Unanswered}
 use Rattle.blocks_word.specs.declared.answering.Unanswered.TheVariants.{Refused, NoMemory}
 

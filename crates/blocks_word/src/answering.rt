@@ -15,7 +15,7 @@ use http_message::{Message, MessageRead, read_message};
 use n32_values::{Bytes, Doc, DocFault, NoMemory, Node, NodeMap, Text, Whole, doc_text, read_doc};
 use policy_tables::Policy;
 use reformat_blocks::{Meta, Split, SplitFault, split};
-use script_answers::{Refusal, refusal_text};
+use script_lines::{Refusal, refusal_text};
 use std::alloc::Global;
 
 // Why a line has no block.

@@ -10,8 +10,8 @@ use Rattle.sending_sepp.specs.declared.fault.ProtectFault.TheVariants as sending
 use Rattle.receiving_sepp.specs.declared.faults.AcceptFault.{AcceptFault}
 use Rattle.receiving_sepp.specs.declared.faults.AcceptFault.TheVariants as receiving
 use Rattle.spec_script.specs.Refusals as spec
-use Rattle.script_answers.specs.declared.refusal.Refusal.TheVariants as refusals
-use Rattle.script_answers.specs.View.{refusal_view}
+use Rattle.script_lines.specs.declared.refusal.Refusal.TheVariants as refusals
+use Rattle.script_lines.specs.View.{refusal_view}
 use Rattle.replay_world.specs.declared.unanswered.Unanswered.{Unanswered}
 use Rattle.replay_world.specs.declared.unanswered.Unanswered.TheVariants as unanswered
 

@@ -1,10 +1,9 @@
 // The answer to a line.
 ghost use Rattle.std.specs.Prelude.{◌≡◌, ◌≤◌, IfOk, IsErrOf};
 ghost use Rattle.n32_outside.specs.Causes.{Rose};
-ghost use Rattle.script_events.specs.View.{event_view};
 ghost use Rattle.spec_script.specs.Answers.{answer_text};
 ghost use Rattle.spec_script.specs.Steps as spec;
-ghost use Rattle.script_answers.specs.View.{refusal_view};
+ghost use Rattle.script_lines.specs.View.{event_view, refusal_view};
 ghost use Rattle.replay_world.specs.Worlds.{IsReady, Steps};
 ghost use Rattle.replay_world.specs.Stepping.{Comes, LineComes};
 ghost use Rattle.replay_world.specs.Fitting.{IsFit};
@@ -17,8 +16,7 @@ use crate::unanswered::Unanswered;
 use crate::world::World;
 use n32_outside::Keeper;
 use n32_values::{Bytes, NoMemory};
-use script_answers::{Refusal, refusal_text};
-use script_events::Event;
+use script_lines::{Event, Refusal, refusal_text};
 use spec_script::runs::refusal_changes_nothing;
 use std::alloc::Global;
 

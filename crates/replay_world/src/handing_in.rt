@@ -5,7 +5,7 @@ ghost use Rattle.spec_documents.specs.Text.{is_node_name};
 ghost use Rattle.spec_records.specs.Records as records;
 ghost use Rattle.spec_records.specs.RecordDocument.{is_well_named};
 ghost use Rattle.context_records.specs.View.{context_view, key_set_view, record_view};
-ghost use Rattle.script_events.specs.View.{handed_view};
+ghost use Rattle.script_lines.specs.View.{handed_view};
 ghost use Rattle.spec_script.specs.Events.{AddContext, AddKeys};
 ghost use Rattle.spec_script.specs.Steps as spec;
 ghost use Rattle.spec_documents.specs.Gives.{Gives};
@@ -23,8 +23,7 @@ use context_store::Store;
 use n32_outside::Keeper;
 use n32_values::{Bytes, Hex64, Text};
 use policy_documents::{PolicyRead, read_policy};
-use script_answers::{Refusal, done_text};
-use script_events::HandedContext;
+use script_lines::{HandedContext, Refusal, done_text};
 use std::alloc::Global;
 
 // The context that is handed in, with the policy that its document is of.

@@ -1,7 +1,7 @@
 // Lines are read to events.
 ghost use Rattle.std.specs.Prelude.{◌≡◌, ◌≤◌, IfOk};
 ghost use Rattle.spec_documents.specs.Tree.{depth as nesting};
-ghost use Rattle.script_events.specs.View.{event_view};
+ghost use Rattle.script_lines.specs.View.{event_view};
 ghost use Rattle.spec_script.specs.Events.{line_event};
 ghost use Rattle.spec_script.specs.LineTree.{line_tree};
 ghost use Rattle.spec_documents.specs.Gives.{Gives};
@@ -10,8 +10,7 @@ ghost use Rattle.replay_world.specs.Fitting.{IsFit};
 
 use crate::unanswered::Unanswered;
 use n32_values::{Doc, DocFault, read_doc};
-use script_answers::Refusal;
-use script_events::{Event, EventRead, read_event};
+use script_lines::{Event, EventRead, Refusal, read_event};
 use std::alloc::Global;
 
 fn read_line(alloc: Global, line: &[u8]) -> Result<Doc, Unanswered>

@@ -9,7 +9,7 @@ ghost use Rattle.replay_world.specs.Stepping.{ComesIdly};
 use crate::unanswered::Unanswered;
 use crate::world::{Site, SiteList, World};
 use n32_values::{Bytes, PlmnId, Text};
-use script_answers::{Refusal, done_text};
+use script_lines::{Refusal, done_text};
 use std::alloc::Global;
 
 /// Whether a node has this name.

@@ -6,7 +6,7 @@ ghost use Rattle.n32_outside.specs.Causes.{Rose};
 ghost use Rattle.http_message.specs.Reading.{message_view};
 ghost use Rattle.spec_script.specs.Events.{Deliver, Inject, Send};
 ghost use Rattle.spec_exchange.specs.Calls.{Asks, sends};
-ghost use Rattle.script_answers.specs.Texts.{sealed_answer};
+ghost use Rattle.script_lines.specs.AnswerTexts.{sealed_answer};
 ghost use Rattle.spec_script.specs.Messages.{message_in};
 ghost use Rattle.spec_script.specs.Steps as spec;
 ghost use Rattle.spec_documents.specs.Gives.{Gives};
@@ -21,7 +21,7 @@ use http_message::{Kind, Message, MessageRead, read_message};
 use n32_outside::Keeper;
 use n32_values::{Bytes, Doc, DocList, Hex64, NoMemory, Node, Text, Whole};
 use receiving_sepp::accept;
-use script_answers::{Refusal, delivered_text, sealed_text, wire_text};
+use script_lines::{Refusal, delivered_text, sealed_text, wire_text};
 use sending_sepp::protect;
 use std::alloc::Global;
 

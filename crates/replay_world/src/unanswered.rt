@@ -6,7 +6,7 @@ use block_forms::LimitName;
 use context_store::{AddFault, OpenFault};
 use n32_values::NoMemory;
 use receiving_sepp::AcceptFault;
-use script_answers::Refusal;
+use script_lines::Refusal;
 use sending_sepp::ProtectFault;
 
 /// Why an event has no text as its answer yet.

@@ -1,8 +1,8 @@
 // The events by their names.
 ghost use Rattle.std.specs.Prelude.{◌≡◌};
-ghost use Rattle.script_events.specs.Kinds as kinds;
+ghost use Rattle.script_lines.specs.EventKinds as kinds;
 
-use crate::member::EventMember;
+use crate::event_member::EventMember;
 use doc_forms::{Grammar, text_at};
 use n32_values::NodeMap;
 

@@ -5,11 +5,11 @@ ghost use Rattle.spec_documents.specs.Tree.{depth as nesting, put_member};
 ghost use Rattle.http_message.specs.Reading.{message_view};
 ghost use Rattle.spec_script.specs.Steps as spec;
 ghost use Rattle.spec_script.specs.Answers.{answer_text, number_tree, with_detail};
-ghost use Rattle.script_answers.specs.Texts.{delivered_answer, document_in, sealed_answer};
-ghost use Rattle.script_answers.specs.View.{refusal_view};
+ghost use Rattle.script_lines.specs.AnswerTexts.{delivered_answer, document_in, sealed_answer};
+ghost use Rattle.script_lines.specs.View.{refusal_view};
 
-use crate::detail::detail_text;
-use crate::messages::message_node;
+use crate::refusal_detail::detail_text;
+use crate::answer_messages::message_node;
 use crate::refusal::Refusal;
 use doc_forms::{put, put_text};
 use http_message::Message;

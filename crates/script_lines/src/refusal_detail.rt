@@ -3,7 +3,7 @@ ghost use Rattle.std.specs.Prelude.{◌≡◌, IfOk};
 ghost use Rattle.std.specs.Fmt.{decimal};
 ghost use Rattle.spec_script.specs.RefusalTexts as spec;
 ghost use Rattle.http_message.specs.Reading.{member_view};
-ghost use Rattle.script_answers.specs.View.{refusal_view};
+ghost use Rattle.script_lines.specs.View.{refusal_view};
 
 use crate::refusal::Refusal;
 use http_message::MessageMember;

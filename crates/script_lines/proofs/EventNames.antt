@@ -5,8 +5,8 @@ use Rattle.spec_documents.specs.Tree.{Members}
 use Rattle.spec_messages.specs.Message.{text_at, any_text, wanted}
 use Rattle.spec_documents.specs.Place.{◌>>=◌}
 use Rattle.spec_script.specs.Events as spec
-use Rattle.script_events.specs.declared.kind.EventKind.TheVariants.{Node, Context, Keys, Send, Inject, Deliver, Restart}
-use Rattle.script_events.specs.Kinds.{kind_named, kind_in, event_by}
+use Rattle.script_lines.specs.declared.event_kind.EventKind.TheVariants.{Node, Context, Keys, Send, Inject, Deliver, Restart}
+use Rattle.script_lines.specs.EventKinds.{kind_named, kind_in, event_by}
 
 tested : (ms : Members) (a b c d e f g : Bool)
     → cond a (spec.node_event ms) (cond b (spec.context_event ms) (cond c (spec.keys_event ms) (cond d (spec.send_event ms) (cond e (spec.inject_event ms) (cond f (spec.deliver_event ms) (cond g (spec.restart_event ms) (Err (codes "do"))))))))

@@ -1,7 +1,7 @@
 ghost use Rattle.std.specs.Prelude.{◌≡◌};
-ghost use Rattle.script_events.specs.Reading.{IsMemory, of_member};
+ghost use Rattle.script_lines.specs.EventReading.{IsMemory, of_member};
 
-use crate::member::EventMember;
+use crate::event_member::EventMember;
 use context_records::RecordRead;
 use n32_values::NoMemory;
 

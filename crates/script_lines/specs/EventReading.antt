@@ -2,10 +2,10 @@
 use Rattle.std.specs.Prelude.{◌≡◌, ⊤, ℕ, List, Result, Ok, Err}
 use Rattle.context_records.specs.declared.read.RecordRead.{RecordRead}
 use Rattle.context_records.specs.declared.read.RecordRead.TheVariants as records
-use Rattle.script_events.specs.declared.member.EventMember.{EventMember}
-use Rattle.script_events.specs.declared.refusal.EventRead.{EventRead}
-use Rattle.script_events.specs.declared.refusal.EventRead.TheVariants.{Member, NoMemory}
-use Rattle.script_events.specs.Members.{member_name}
+use Rattle.script_lines.specs.declared.event_member.EventMember.{EventMember}
+use Rattle.script_lines.specs.declared.event_fault.EventRead.{EventRead}
+use Rattle.script_lines.specs.declared.event_fault.EventRead.TheVariants.{Member, NoMemory}
+use Rattle.script_lines.specs.EventMembers.{member_name}
 
 abbrev pub IsMemory : EventRead → Type 0
 IsMemory e = e ≡ NoMemory

@@ -3,8 +3,8 @@ use Rattle.std.specs.Prelude.{ℕ, List, Option, Some, None, option_and_then, Re
 use Rattle.spec_documents.specs.Tree.{Members}
 use Rattle.spec_messages.specs.Message.{text_at, any_text}
 use Rattle.spec_script.specs.Events as spec
-use Rattle.script_events.specs.declared.kind.EventKind.{EventKind}
-use Rattle.script_events.specs.declared.kind.EventKind.TheVariants.{Node, Context, Keys, Send, Inject, Deliver, Restart}
+use Rattle.script_lines.specs.declared.event_kind.EventKind.{EventKind}
+use Rattle.script_lines.specs.declared.event_kind.EventKind.TheVariants.{Node, Context, Keys, Send, Inject, Deliver, Restart}
 
 abbrev pub kind_named : List ℕ → Option EventKind
 kind_named name =

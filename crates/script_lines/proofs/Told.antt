@@ -6,9 +6,9 @@ use Rattle.spec_records.specs.RecordDocument.{NoRecord, no_record}
 use Rattle.context_records.specs.Reading as records
 use Rattle.context_records.specs.declared.read.RecordRead.{RecordRead}
 use Rattle.context_records.specs.declared.read.RecordRead.TheVariants.{Form, NoMemory}
-use Rattle.script_events.specs.declared.member.EventMember.{EventMember}
-use Rattle.script_events.specs.Members.{member_name}
-use Rattle.script_events.specs.Reading.{Gives, of_member}
+use Rattle.script_lines.specs.declared.event_member.EventMember.{EventMember}
+use Rattle.script_lines.specs.EventMembers.{member_name}
+use Rattle.script_lines.specs.EventReading.{Gives, of_member}
 
 pub told : {A B : Type 0} (view : A → B) (k : EventMember) (r : Result A RecordRead) (o : Option B) → records.Gives view r (wanted o no_record) → Gives view (of_member k r) (wanted o (member_name k))
 told view k (Ok x) (Some y) h = cc

@@ -1,5 +1,5 @@
 ghost use Rattle.std.specs.Prelude.{◌≡◌};
-ghost use Rattle.script_events.specs.Members.{member_name};
+ghost use Rattle.script_lines.specs.EventMembers.{member_name};
 
 /// A member of an event's document.
 #[derive(Clone, Copy, Debug, PartialEq, Eq, Drop)]

@@ -1,7 +1,7 @@
 // Refusals, with their numbers and names.
 ghost use Rattle.std.specs.Prelude.{◌≡◌};
 ghost use Rattle.spec_script.specs.RefusalTexts.{telling};
-ghost use Rattle.script_answers.specs.View.{refusal_view};
+ghost use Rattle.script_lines.specs.View.{refusal_view};
 
 use block_forms::LimitName;
 use http_message::MessageMember;

@@ -2,14 +2,14 @@
 ghost use Rattle.std.specs.Prelude.{◌≡◌};
 ghost use Rattle.n32_values.specs.View.{tree_of};
 ghost use Rattle.spec_script.specs.Events as spec;
-ghost use Rattle.script_events.specs.View.{event_view};
-ghost use Rattle.script_events.specs.Reading.{Gives};
+ghost use Rattle.script_lines.specs.View.{event_view};
+ghost use Rattle.script_lines.specs.EventReading.{Gives};
 
 use crate::event::{Event, HandedContext};
-use crate::kind::{EventKind, kind_of};
-use crate::member::EventMember;
-use crate::refusal::EventRead;
-use crate::words::{
+use crate::event_kind::{EventKind, kind_of};
+use crate::event_member::EventMember;
+use crate::event_fault::EventRead;
+use crate::event_values::{
     answers_at, first_at, id_at, ipx_at, key_pair_at, name_at, network_at, suite_at, take,
     value_at, whole_at,
 };

@@ -4,11 +4,11 @@ ghost use Rattle.n32_values.specs.View.{tree_of};
 ghost use Rattle.context_records.specs.View.{suite_view, key_pair_view};
 ghost use Rattle.spec_script.specs.Events as spec;
 ghost use Rattle.spec_records.specs.RecordDocument as document;
-ghost use Rattle.script_events.specs.Members.{member_name};
-ghost use Rattle.script_events.specs.Reading.{Gives};
+ghost use Rattle.script_lines.specs.EventMembers.{member_name};
+ghost use Rattle.script_lines.specs.EventReading.{Gives};
 
-use crate::member::EventMember;
-use crate::refusal::{EventRead, of_member};
+use crate::event_member::EventMember;
+use crate::event_fault::{EventRead, of_member};
 use context_records::OneKey;
 use context_records::keys::read_key_pair;
 use context_records::words::{

@@ -1,0 +1,5 @@
+pub mod EventMembers
+pub mod EventKinds
+pub mod EventReading
+pub mod AnswerTexts
+pub mod View
