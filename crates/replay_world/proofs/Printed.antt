@@ -13,7 +13,7 @@ use Rattle.script_lines.specs.declared.refusal.Refusal.TheVariants as refusals
 use Rattle.replay_world.specs.Worlds.{state_of}
 use Rattle.replay_world.specs.Stepping.{StepBy, Makes, GivesUp, Tells, Comes, TellsText, LineComes, is_refusal}
 use Rattle.replay_world.specs.declared.world.World.{World}
-use Rattle.replay_world.specs.declared.unanswered.Unanswered.TheVariants as unanswered
+use Rattle.script_lines.specs.declared.unanswered.Unanswered.TheVariants as unanswered
 
 -- an answer that is no refusal is none of the keeper's
 no_refusal : (a : Answer) → is_refusal a ≡ false → has_refusal is_keeper_refusal a ≡ false

@@ -22,8 +22,8 @@ use Rattle.replay_world.specs.Worlds.{sites_view, state_of}
 use Rattle.replay_world.specs.Stepping.{StepBy, Makes, Tells, Comes}
 use Rattle.replay_world.specs.Handing.{puts_record}
 use Rattle.replay_world.specs.declared.world.World.{World}
-use Rattle.replay_world.specs.declared.unanswered.Unanswered.{Unanswered}
-use Rattle.replay_world.specs.declared.unanswered.Unanswered.TheVariants as unanswered
+use Rattle.script_lines.specs.declared.unanswered.Unanswered.{Unanswered}
+use Rattle.script_lines.specs.declared.unanswered.Unanswered.TheVariants as unanswered
 use Rattle.replay_world.proofs.Parts.{chosen_fresh, gives_up_idly}
 use Rattle.replay_world.proofs.EventSteps.{has_room, no_room}
 

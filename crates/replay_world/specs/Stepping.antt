@@ -14,8 +14,8 @@ use Rattle.n32_outside.specs.Causes.{Rose}
 use Rattle.script_lines.specs.View.{refusal_view}
 use Rattle.replay_world.specs.Worlds.{sites_view, state_of}
 use Rattle.replay_world.specs.declared.world.World.{World}
-use Rattle.replay_world.specs.declared.unanswered.Unanswered.{Unanswered}
-use Rattle.replay_world.specs.declared.unanswered.Unanswered.TheVariants as unanswered
+use Rattle.script_lines.specs.declared.unanswered.Unanswered.{Unanswered}
+use Rattle.script_lines.specs.declared.unanswered.Unanswered.TheVariants as unanswered
 
 -- ---- over what a step is
 

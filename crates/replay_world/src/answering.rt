@@ -12,11 +12,10 @@ use crate::handing_in::{hand_in_context, hand_in_keys};
 use crate::reading::read_line_event;
 use crate::sites::{add_node, restart};
 use crate::traffic::{deliver, inject, send};
-use crate::unanswered::Unanswered;
 use crate::world::World;
 use n32_outside::Keeper;
 use n32_values::{Bytes, NoMemory};
-use script_lines::{Event, Refusal, refusal_text};
+use script_lines::{Event, Refusal, Unanswered, refusal_text};
 use spec_script::runs::refusal_changes_nothing;
 use std::alloc::Global;
 

@@ -3,3 +3,4 @@ pub mod EventKinds
 pub mod EventReading
 pub mod AnswerTexts
 pub mod View
+pub mod Unanswered

@@ -1,7 +1,7 @@
 use Rattle.std.proofs.Common.{◌≡◌, Err}
 use Rattle.n32_values.specs.declared.read.DocFault.TheVariants.{Syntax, Number}
-use Rattle.replay_world.proofs.Read.{tree_read, syntax_read, number_read}
-use Rattle.replay_world.proofs.reading.read_line.Goals as goal
+use Rattle.script_lines.proofs.LineTree.{tree_read, syntax_read, number_read}
+use Rattle.script_lines.proofs.line_reading.read_line.Goals as goal
 
 pub returns-in-Ok-clause-gives : goal.returns-in-Ok-clause-gives
 returns-in-Ok-clause-gives c = tree_read c.args.line.now _ c.in-Ok.ensures.tree

@@ -1,32 +1,12 @@
-// What comes in place of an answer's text.
+// Faults of the store and of the calls of a SEPP, as they are told of an event.
 ghost use Rattle.std.specs.Prelude.{◌≡◌};
 ghost use Rattle.replay_world.specs.Refusing.{of_adding, of_opening, of_receiving, of_sending};
 
 use block_forms::LimitName;
 use context_store::{AddFault, OpenFault};
-use n32_values::NoMemory;
 use receiving_sepp::AcceptFault;
-use script_lines::Refusal;
+use script_lines::{Refusal, Unanswered};
 use sending_sepp::ProtectFault;
-
-/// Why an event has no text as its answer yet.
-#[derive(Drop)]
-pub(crate) enum Unanswered {
-    /// It is refused.
-    Refused(Refusal),
-    /// Memory was refused.
-    NoMemory,
-}
-
-impl From<NoMemory> for Unanswered {
-    ghost use Rattle.replay_world.specs.Refusing.{IsMemory};
-
-    ghost from_gives = { λ _ why. IsMemory why };
-
-    fn from(_refused: NoMemory) -> Unanswered {
-        Unanswered::NoMemory
-    }
-}
 
 pub(crate) fn unread(fault: OpenFault) -> Unanswered
     ensures { result ≡ of_opening fault }
