@@ -9,3 +9,4 @@ pub mod Unread
 pub mod Journals
 pub mod Held
 pub mod Printed
+pub mod Handled
