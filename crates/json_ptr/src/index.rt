@@ -16,7 +16,8 @@ pub fn is_index(bytes: &[u8]) -> bool
     }
 }
 
-pub(crate) fn is_dash(bytes: &[u8]) -> bool
+/// Whether the text is `-`, which names the place after the last item (RFC 6901, section 4).
+pub fn is_dash(bytes: &[u8]) -> bool
     ensures { result ≡ is_dash_text bytes.now }
 {
     bytes == b"-".as_slice()

@@ -11,7 +11,7 @@ ghost use Rattle.spec_documents.specs.Place.{at, child, is_prefix as begins_with
 ghost use Rattle.n32_values.specs.View.{tree_of};
 ghost use Rattle.json_ptr.specs.Causes.{cause_of};
 
-pub use index::{capped_number, is_index};
+pub use index::{capped_number, is_dash, is_index};
 use n32_values::{NoMemory, Node, NodeList, Text, TextList};
 pub use reader::{PointerRead, read_pointer};
 pub use spell::pointer_text;

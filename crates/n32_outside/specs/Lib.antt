@@ -5,4 +5,5 @@ pub mod FailViews
 pub mod FileViews
 pub mod Meanings
 pub mod MemoryViews
+pub mod RecordFront
 pub mod StandardViews

@@ -65,7 +65,8 @@ impl Doc {
         Ok(Doc::from_shallow(node))
     }
 
-    pub(crate) fn of_shallow(node: Node) -> Doc
+    /// A node that is known to be a tree and to nest at most 127 deep. It is not walked.
+    pub fn of_shallow(node: Node) -> Doc
         requires { (nesting (tree_of node) ≤ 127) × IsTrue (is_tree (tree_of node)) }
         ensures { result ≡ tree_of node }
     {

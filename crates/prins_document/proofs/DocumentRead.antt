@@ -1,5 +1,5 @@
 -- A document is read where its parts are.
-use Rattle.std.proofs.Common.{◌≡◌, List, [], Some, None, Ok, refl, sym, ap, codes, ◌∙◌}
+use Rattle.std.proofs.Common.{◌≡◌, List, [], Ok, sym, ap, codes, ◌∙◌}
 use Rattle.std.specs.Prelude.{option_and_then, unwrap_or}
 use Rattle.spec_documents.specs.Tree.{Tree, null, truth, whole, words, items, members, Members, get_member, items_in}
 use Rattle.spec_documents.proofs.Chains.{bind_at}

@@ -1,5 +1,5 @@
 -- What a plaintext is read to, over what its document is read to.
-use Rattle.std.proofs.Common.{◌≡◌, ℕ, List, [], ◌∷◌, Option, Some, None, ◌≤◌, refl, sym, ap, ◌∙◌, subst, arith}
+use Rattle.std.proofs.Common.{◌≡◌, ℕ, List, [], ◌∷◌, Option, Some, ◌≤◌, sym, ap, ◌∙◌, subst, arith}
 use Rattle.std.specs.Prelude.{option_and_then, codes}
 use Rattle.spec_documents.specs.Tree.{Tree, items, members, Members, trees, object, depth, items_depth}
 use Rattle.spec_documents.proofs.FieldLemmas.{list-trees}

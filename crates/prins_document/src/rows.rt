@@ -1,6 +1,6 @@
 //! Worked examples, by computation.
 
-ghost use Rattle.std.specs.Prelude.{◌≡◌, true, false, List, [], ◌∷◌, codes};
+ghost use Rattle.std.specs.Prelude.{◌≡◌, true, false, [], ◌∷◌, codes};
 ghost use Rattle.prins_document.specs.Route.{route, in_route};
 
 /// The route of a document has the authorized intermediary first, where the peer has announced it, and then

@@ -1,5 +1,5 @@
 // The checks of a request that is to be sent, in their order.
-ghost use Rattle.std.specs.Prelude.{◌≡◌, ◌≤◌, IfOk, IsTrue, OnOk};
+ghost use Rattle.std.specs.Prelude.{◌≤◌, IfOk, IsTrue, OnOk};
 ghost use Rattle.spec_documents.specs.Gives.{Gives};
 ghost use Rattle.spec_documents.specs.Text.{is_node_name};
 ghost use Rattle.spec_messages.specs.Message.{is_whole, body_depth, of_request, wanted};

@@ -1,6 +1,7 @@
 pub mod Tree
 pub mod Place
 pub mod Patch
+pub mod Operations
 pub mod Text
 pub mod Hole
 pub mod KeepsOff

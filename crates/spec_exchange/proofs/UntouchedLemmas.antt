@@ -3,12 +3,11 @@ use Rattle.std.proofs.Common.{◌≡◌, ℕ, zero, suc, ◌+◌, ◌/◌, ◌%�
 use Rattle.std.specs.Prelude.{option_and_then, nat_lt, nat_le, is_some, if◌then◌else◌}
 use Rattle.std.proofs.lemmas.Bool.{and_from, lt-leb, le-leb, ltb-false, ltb-true}
 use Rattle.base64.specs.GeneralPurpose.{IsBytes}
-use Rattle.spec_documents.specs.Tree.{Tree, items, members, trees, object, member, get_member, depth}
+use Rattle.spec_documents.specs.Tree.{Tree, member, get_member, depth}
 use Rattle.spec_documents.specs.Ids.{id_text, hex_after, hex_digit, hex_digits}
 use Rattle.spec_documents.specs.Text.{is_id, lower, lower_byte}
 use Rattle.spec_documents.specs.Compact.{compact_text}
 use Rattle.spec_documents.proofs.IdLemmas.{id_of-id_text}
-use Rattle.spec_documents.proofs.FieldLemmas.{list-trees}
 use Rattle.spec_messages.specs.Message.{Message, Head, request, response, Kind, of_request, of_response, kind_of, kind_of_head, wanted}
 use Rattle.spec_messages.specs.Policy.{Policy, values}
 use Rattle.spec_messages.specs.Split.{cleared, filled, fill_whole, hide_head}
@@ -20,7 +19,6 @@ use Rattle.spec_records.specs.Records.{OneKey, KeySet, Context, Record, record_l
 use Rattle.spec_documents.specs.Base64url.{base64url}
 use Rattle.spec_documents.specs.Document.{IsDocument}
 use Rattle.spec_documents.proofs.RoundTrip.{reads_back}
-use Rattle.json.proofs.Printed.Utf8.{IsUtf8-are_ascii}
 use Rattle.spec_exchange.specs.Chain.{or_refused, none_of, unless}
 use Rattle.spec_documents.specs.Reading.{document_of}
 use Rattle.spec_sealing.specs.Received.{block_in, if_has_meta, metadata_of, kind_in, received, carrier}

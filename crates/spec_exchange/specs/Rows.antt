@@ -1,6 +1,6 @@
 -- The records and messages of worked examples.
-use Rattle.std.specs.Prelude.{◌≡◌, ℕ, ◌≤◌, List, [], ◌∷◌, ◌++◌, length, Option, Some, None, Result, codes}
-use Rattle.spec_documents.specs.Tree.{Tree, null}
+use Rattle.std.specs.Prelude.{◌≡◌, ℕ, List, [], ◌∷◌, ◌++◌, Some, None, Result, codes}
+use Rattle.spec_documents.specs.Tree.{Tree}
 use Rattle.spec_messages.specs.Message.{clear, request, Message, of_request, of_response}
 use Rattle.spec_messages.specs.Policy.{Policy, fixed, variable, uri_param, ueid}
 use Rattle.spec_messages.specs.Split.{cleared}

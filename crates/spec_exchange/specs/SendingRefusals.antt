@@ -1,5 +1,5 @@
 -- Why a message isn't sent (this project's own).
-use Rattle.std.specs.Prelude.{ℕ, List, codes}
+use Rattle.std.specs.Prelude.{codes}
 use Rattle.spec_messages.specs.Limits.{Limit, limit_name}
 use Rattle.spec_exchange.specs.Telling.{Telling, bare, detailed}
 

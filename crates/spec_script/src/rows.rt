@@ -1,19 +1,19 @@
 //! Worked examples, by computation.
 
-ghost use Rattle.std.specs.Prelude.{◌≡◌, ◌≤◌, ◌<◌, ℕ, pos, negsuc, true, false, List, [], ◌∷◌, length, Some, None, Ok, Err, codes};
-ghost use Rattle.spec_documents.specs.Tree.{Tree, null, whole, words, items, trees};
+ghost use Rattle.std.specs.Prelude.{◌≡◌, ◌≤◌, ◌<◌, pos, negsuc, true, false, List, [], ◌∷◌, length, Some, None, Ok, Err, codes};
+ghost use Rattle.spec_documents.specs.Tree.{null, whole, words, items, trees};
 ghost use Rattle.spec_documents.specs.Hole as hole;
 ghost use Rattle.spec_messages.specs.Message.{method, headers, status_line};
 ghost use Rattle.spec_messages.specs.Fault as block;
 ghost use Rattle.spec_messages.specs.Policy.{body_at};
-ghost use Rattle.spec_records.specs.Records.{Record, Opened, Keyed, record_limit, used, open_context, keys};
+ghost use Rattle.spec_records.specs.Records.{Record, Keyed, record_limit, used, open_context, keys};
 ghost use Rattle.spec_records.specs.RecordRows.{context_with, keys_from, unfit_keys};
 ghost use Rattle.spec_exchange.specs.Outside.{no_fault, Journal, Keeper};
 ghost use Rattle.spec_exchange.specs.Rebuilding.{no_block};
 ghost use Rattle.spec_messages.specs.Limits.{many_records};
 ghost use Rattle.spec_exchange.specs.ReceivingRefusals.{Form, Replay, Reconstruction, InClear};
 ghost use Rattle.spec_exchange.specs.SendingRefusals as sending;
-ghost use Rattle.spec_script.specs.Refusals.{Syntax, OtherNumber, BadEvent, NodeUnknown, NodeExists, WireUnknown, Beyond, KeysTwice, ContextNotFound, BadMessage, DeepBody, BadPolicy, ContextUsed, NotBuilt, OfSending, OfReceiving, OfOutside};
+ghost use Rattle.spec_script.specs.Refusals.{Syntax, BadEvent, NodeUnknown, NodeExists, WireUnknown, Beyond, KeysTwice, ContextNotFound, BadMessage, DeepBody, BadPolicy, ContextUsed, NotBuilt, OfSending, OfReceiving, OfOutside};
 ghost use Rattle.spec_script.specs.Events.{AddNode, AddContext, AddKeys, Send, Inject, Deliver, Restart, event_of, line_event};
 ghost use Rattle.spec_script.specs.Steps.{Fine, OnWire, Refuses, step, after};
 ghost use Rattle.spec_script.specs.Answers.{answer_text};

@@ -13,7 +13,7 @@ use Rattle.spec_documents.proofs.Decoding.{bytes_of-base64url, document_of-reads
 use Rattle.spec_sealing.specs.Suites.{Suite, A128Gcm, A256Gcm}
 use Rattle.spec_sealing.specs.Header.{header_members, compact_header, header_text, header_in, header_misfit, object_in, members_if}
 
-ascii_bytes : (xs : List ℕ) → are_ascii xs ≡ true → IsBytes xs
+pub ascii_bytes : (xs : List ℕ) → are_ascii xs ≡ true → IsBytes xs
 ascii_bytes [] e i = omega arith
 ascii_bytes (x ∷ xs) e zero = let small : x < 128 = ltb-true _ _ (and_parts _ _ e).0 in omega arith
 ascii_bytes (x ∷ xs) e (suc i) = ascii_bytes xs (and_parts _ _ e).1 i

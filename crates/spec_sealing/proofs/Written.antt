@@ -1,5 +1,5 @@
 -- What is written is read.
-use Rattle.std.proofs.Common.{◌≡◌, ℕ, ◌≤◌, List, [], ◌∷◌, length, Option, Some, None, Ok, refl, ap, ◌∙◌, codes, cond, eq-eqb, arith}
+use Rattle.std.proofs.Common.{◌≡◌, ℕ, ◌≤◌, List, [], length, Option, Some, None, Ok, refl, ap, ◌∙◌, codes, cond, eq-eqb, arith}
 use Rattle.std.specs.Prelude.{option_and_then}
 use Rattle.base64.specs.GeneralPurpose.{IsBytes}
 use Rattle.json.proofs.Printed.Utf8.{IsUtf8-are_ascii}

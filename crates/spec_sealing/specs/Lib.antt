@@ -10,3 +10,7 @@ pub mod Jwe
 pub mod Plaintext
 pub mod Received
 pub mod Forms
+pub mod Jws
+pub mod Hmac
+pub mod Entries
+pub mod Passing

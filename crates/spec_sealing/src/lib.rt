@@ -2,5 +2,7 @@
 //! document that carries one (PRINS, TS 29.573 clause 5.3.2) and its plaintext, and laws over them.
 #![tactic(auto)]
 
+pub mod entry_laws;
+pub mod entry_rows;
 pub mod laws;
 pub mod rows;

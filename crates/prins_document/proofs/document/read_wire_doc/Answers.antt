@@ -1,5 +1,3 @@
-use Rattle.spec_documents.specs.Tree.{Tree}
-use Rattle.std.specs.Prelude.{List}
 use Rattle.jwe_flat.specs.View.{jwe_view}
 use Rattle.prins_document.specs.View.{parts_view}
 use Rattle.prins_document.proofs.DocumentRead.{document_read}

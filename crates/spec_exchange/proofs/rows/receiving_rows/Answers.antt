@@ -1,8 +1,8 @@
-use Rattle.std.proofs.Common.{◌≡◌, ℕ, ◌≤◌, List, [], ◌∷◌, length, true, codes, Option, Some, None, Result, Ok, Err, refl, ap, ◌∙◌}
+use Rattle.std.proofs.Common.{◌≡◌, ℕ, ◌≤◌, List, [], ◌∷◌, length, codes, Some, Ok, Err, refl, ap, ◌∙◌}
 use Rattle.std.proofs.lemmas.Bool.{le-leb}
 use Rattle.spec_documents.specs.Tree.{Tree, null, words}
 use Rattle.spec_documents.specs.Ids as ids
-use Rattle.spec_messages.specs.Message.{Message, of_request, wanted}
+use Rattle.spec_messages.specs.Message.{Message, wanted}
 use Rattle.spec_messages.specs.Policy.{path_var}
 use Rattle.spec_messages.specs.Fault.{bad_member}
 use Rattle.spec_messages.specs.Rebuilt.{not_text}
@@ -14,8 +14,8 @@ use Rattle.spec_exchange.specs.Chain as chain
 use Rattle.spec_exchange.specs.Chain.{unless, none_of, or_refused}
 use Rattle.spec_exchange.specs.Rebuilding.{no_values, no_block, no_fill, read_block, filled_with}
 use Rattle.spec_exchange.specs.ReceivingRefusals.{Refusal, NotBuilt, NoContext, NoReceiveKeys, Cipher, Integrity, Replay, Reconstruction, InClear, NoRoom, Form}
-use Rattle.spec_exchange.specs.FirstFailed.{Rebuilt, Delivery, keyed_context, opens, is_first, rebuilt, is_sealed, has_room, formed, delivery_at}
-use Rattle.spec_exchange.specs.Rows.{slices_policy, slices_request, context_a, keys_from, context_b, opened_both, keyed_both, after_delivery, held_b, key_b, received_with, told_at_b, hidden_block, clear_block, OpensTo, AwaitsThird}
+use Rattle.spec_exchange.specs.FirstFailed.{keyed_context, opens, rebuilt, has_room}
+use Rattle.spec_exchange.specs.Rows.{slices_policy, slices_request, keys_from, context_b, keyed_both, after_delivery, held_b, key_b, received_with, told_at_b, hidden_block, clear_block, OpensTo, AwaitsThird}
 use Rattle.spec_documents.proofs.Chains.{bind_at, bind_err}
 use Rattle.spec_exchange.proofs.rows.receiving_rows.Goals as goal
 
