@@ -12,7 +12,7 @@ use Rattle.spec_script.specs.Steps.{State, after, line_step}
 use Rattle.spec_script.specs.Output.{Answers, Numbered}
 use Rattle.context_store.proofs.Kept.{has_no_bad}
 use Rattle.replay_world.specs.declared.world.World.{World}
-use Rattle.replay_world.specs.Worlds.{TellsRecords, moment, state_of}
+use Rattle.replay_world.specs.Worlds.{TellsRecords, state_of}
 use Rattle.replay_world.specs.Stepping as stepping
 use Rattle.replay_runs.specs.Lines.{GivesUpLine}
 use Rattle.replay_runs.specs.Statuses.{status_of}
@@ -49,7 +49,7 @@ cut_reply held faults world script taken number line front first answers state m
     (λ blank one. absurd (omega (arith, ap length one.0, length-append front c.rest, c.some)))
     λ spoken one.
     let s : State = state_of (world mid) state.records in
-    let g = over_told (moment (world mid) (held mid) (faults mid)) (moment (world new) (held new) (faults new)) (number + 1) line one.0 state.records t one.2.steps in
+    let g = over_told (held mid) (held new) (faults mid) (faults new) (world mid) (world new) (number + 1) line one.0 state.records t one.2.steps in
     let r = line_step s g.choice line in
     let none = has_no_bad (Some t.texts) state.records t.are few in
     let sound = answer_sound r.answer (λ i e. none i (g.journal i e)) in
@@ -70,7 +70,7 @@ cut_reply held faults world script taken number line front first answers state m
 
 pub given_reply : {M : Type 0} (held : M → Option (List (List ℕ))) (faults : M → ℕ) (world : M → World) (gives_up : GivesUp M) (script taken : List ℕ) (number : ℕ) (line front : List ℕ) (first : ℕ) (answers : List Numbered) (state : State) (mid new : M) (e : Ending)
     → state_of (world mid) state.records ≡ state → TellsRecords (held mid) state.records → KeeperAnswers answers first (faults mid)
-    → ((a b : M) (n : ℕ) (l : List ℕ) → gives_up a n l b → GivesUpLine (moment (world a) (held a) (faults a)) (moment (world b) (held b) (faults b)) l)
+    → ((a b : M) (n : ℕ) (l : List ℕ) → gives_up a n l b → GivesUpLine (held a) (held b) (faults a) (faults b) (world a) (world b) l)
     → IsNext script taken number line → IsGivenUp gives_up mid (number + 1) line front new e
     → LacksMemory script taken number answers state front (held new) first (faults new) (status_of e)
 given_reply held faults world gives_up script taken number line front first answers state mid new e same t k kept next g =

@@ -15,7 +15,7 @@ use Rattle.spec_script.specs.Steps.{State}
 use Rattle.spec_script.specs.Output.{Answered, Numbered, Output, answers_text, begin}
 use Rattle.context_store.specs.Stores.{AreRecords, Holds}
 use Rattle.replay_world.specs.declared.world.World.{World}
-use Rattle.replay_world.specs.Worlds.{TellsRecords, moment, state_of}
+use Rattle.replay_world.specs.Worlds.{TellsRecords, state_of}
 use Rattle.replay_runs.specs.Statuses.{status_of}
 use Rattle.replay_runs.specs.Unfailing.{plain_state, plain_output}
 use Rattle.replay_runs.specs.Replays.{KeeperAnswers, tells_keeper, RepliesToAll, RepliesToFirst, RepliesInPart, Leaves, OverRecords, IsComplete}
@@ -29,7 +29,7 @@ use Rattle.replay_runs.proofs.InPart.{cut_reply, given_reply, unbegun_reply}
 
 -- what a machine leaves that gives a line up
 abbrev Kept : {M : Type 0} → (M → Option (List (List ℕ))) → (M → ℕ) → (M → World) → GivesUp M → Type 0
-Kept {M} held faults world gives_up = (a b : M) (n : ℕ) (line : List ℕ) → gives_up a n line b → GivesUpLine (moment (world a) (held a) (faults a)) (moment (world b) (held b) (faults b)) line
+Kept {M} held faults world gives_up = (a b : M) (n : ℕ) (line : List ℕ) → gives_up a n line b → GivesUpLine (held a) (held b) (faults a) (faults b) (world a) (world b) line
 
 -- a run begins in a world without nodes and documents
 abbrev Begins : World → List Record → Type 0

@@ -1,6 +1,6 @@
 -- What a machine's outputs are, in the words of records and answers.
 use Rattle.std.proofs.Common.{◌≡◌, ℕ, ◌+◌, ◌≤◌, Bool, true, false, cond, List, [], ◌∷◌, ◌++◌, length, refl, ap, sym, subst, ◌∙◌, arith, Some}
-use Rattle.std.specs.Prelude.{IfSome, Option, count_by}
+use Rattle.std.specs.Prelude.{Option, count_by}
 use Rattle.std.proofs.lemmas.List.Sums.{sum_by-cons}
 use Rattle.n32_outside.specs.Causes.{RoseBy}
 use Rattle.spec_documents.specs.Lines.{is_blank, Gives, Outputs}
@@ -14,7 +14,7 @@ use Rattle.spec_script.specs.Output.{Answered, Numbered, answers_text, has_refus
 use Rattle.context_store.specs.Stores.{AreRecords, HasNoBad}
 use Rattle.context_store.proofs.Kept.{has_no_bad}
 use Rattle.replay_world.specs.declared.world.World.{World}
-use Rattle.replay_world.specs.Worlds.{Moment, moment, TellsRecords, StepsOver, Steps, state_of}
+use Rattle.replay_world.specs.Worlds.{TellsRecords, StepsOver, Steps, state_of}
 use Rattle.replay_runs.specs.Lines.{AnswersLine}
 use Rattle.replay_runs.specs.Replays.{KeeperAnswers, tells_keeper, tells_journal, is_journal_refusal}
 use Rattle.replay_runs.proofs.Plain.{by_line, into_blank, into_spoken}
@@ -22,7 +22,7 @@ use Rattle.replay_runs.proofs.Rooms.{line_fits}
 
 -- what a machine gives, of which this is seen
 abbrev pub gives_of : {M : Type 0} → (M → Option (List (List ℕ))) → (M → ℕ) → (M → World) → Gives M
-gives_of held faults world = λ old number line text new. AnswersLine (moment (world old) (held old) (faults old)) (moment (world new) (held new) (faults new)) number line text
+gives_of held faults world = λ old number line text new. AnswersLine (held old) (held new) (faults old) (faults new) (world old) (world new) number line text
 
 -- from these records the lines were answered by out, and the machine went on to new
 pub record Went {M : Type 0} (held : M → Option (List (List ℕ))) (faults : M → ℕ) (world : M → World) (old : M) (records : List Record) (number : ℕ) (lines : List (List ℕ)) (out : List ℕ) (new : M) : Type 0 where
@@ -97,7 +97,7 @@ went_blank held faults world old mid new records number line lines first rest ou
 
 went_spoken : {M : Type 0} (held : M → Option (List (List ℕ))) (faults : M → ℕ) (world : M → World) (old mid new : M) (texts : List (List ℕ)) (records : List Record) (number : ℕ) (line : List ℕ) (lines : List (List ℕ)) (first rest out text : List ℕ)
     → is_blank line ≡ false → out ≡ first ++ rest → first ≡ text ++ 10 ∷ [] → AreRecords texts records → length records ≤ record_limit → faults old ≤ faults mid
-    → (g : StepsOver (moment (world old) (held old) (faults old)) (moment (world mid) (held mid) (faults mid)) texts records number line text)
+    → (g : StepsOver (held mid) (faults old) (faults mid) (world old) (world mid) texts records number line text)
     → Went held faults world mid (with_put records (line_step (state_of (world old) records) g.choice line).put) (number + 1) lines rest new
     → Went held faults world old records number (line ∷ lines) out new
 went_spoken held faults world old mid new texts records number line lines first rest out text spoken parts one are few le g w =
@@ -118,10 +118,10 @@ went_spoken held faults world old mid new texts records number line lines first 
     }
 
 -- the step over the records that are told
-pub over_told : (before now : Moment) (number : ℕ) (line text : List ℕ) (records : List Record) (t : TellsRecords before.held records)
-    → Steps before now number line text → StepsOver before now t.texts records number line text
-over_told before now number line text records t g =
-    let P : Option (List (List ℕ)) → Type 0 = λ o. IfSome o (λ texts. (rs : List Record) → AreRecords texts rs → StepsOver before now texts rs number line text) in
+pub over_told : (held now : Option (List (List ℕ))) (before after : ℕ) (old new : World) (number : ℕ) (line text : List ℕ) (records : List Record) (t : TellsRecords held records)
+    → Steps held now before after old new number line text → StepsOver now before after old new t.texts records number line text
+over_told held now before after old new number line text records t g =
+    let P : Option (List (List ℕ)) → Type 0 = λ o. Steps o now before after old new number line text in
     subst P t.told g records t.are
 
 pub went : {M : Type 0} (held : M → Option (List (List ℕ))) (faults : M → ℕ) (world : M → World) (old : M) (records : List Record) (number : ℕ) (lines : List (List ℕ)) (out : List ℕ) (new : M)
@@ -146,6 +146,6 @@ went held faults world old records number (line ∷ lines) out new t few h =
     went_blank held faults world old h.2 new records number line lines h.0 h.1 out blank h.3 (one.0) (one.1)
     (went held faults world h.2 records (number + 1) lines h.1 new (subst P (sym (one.1)) t) few h.5))
     λ spoken one.
-    let g = over_told (moment (world old) (held old) (faults old)) (moment (world h.2) (held h.2) (faults h.2)) number line one.0 records t one.2.steps in
+    let g = over_told (held old) (held h.2) (faults old) (faults h.2) (world old) (world h.2) number line one.0 records t one.2.steps in
     went_spoken held faults world old h.2 new t.texts records number line lines h.0 h.1 out one.0 spoken h.3 (one.1) t.are few one.2.later g
     (went held faults world h.2 (with_put records (line_step (state_of (world old) records) g.choice line).put) (number + 1) lines h.1 new g.held_is (line_fits (state_of (world old) records) g.choice line few) h.5)

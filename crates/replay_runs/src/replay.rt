@@ -26,16 +26,16 @@ pub struct Events<'a, K: Keeper> {
 }
 
 impl<'a, K: Keeper> Machine for Events<'a, K> {
-    ghost use Rattle.replay_world.specs.Worlds.{IsReady, moment};
+    ghost use Rattle.replay_world.specs.Worlds.{IsReady};
     ghost use Rattle.replay_runs.specs.Lines.{AnswersLine, GivesUpLine, IsLater, later_refl, later_trans};
 
     ghost ready = { λ m. IsReady (K.held m.keeper.now) m.world.now };
 
-    ghost gives = { λ old number line text new. AnswersLine (moment old.world.now (K.held old.keeper.now) (K.faults old.keeper.now))
-        (moment new.world.now (K.held new.keeper.now) (K.faults new.keeper.now)) number line text };
+    ghost gives = { λ old number line text new. AnswersLine (K.held old.keeper.now) (K.held new.keeper.now)
+        (K.faults old.keeper.now) (K.faults new.keeper.now) old.world.now new.world.now number line text };
 
-    ghost gives_up = { λ old number line new. GivesUpLine (moment old.world.now (K.held old.keeper.now) (K.faults old.keeper.now))
-        (moment new.world.now (K.held new.keeper.now) (K.faults new.keeper.now)) line };
+    ghost gives_up = { λ old number line new. GivesUpLine (K.held old.keeper.now) (K.held new.keeper.now)
+        (K.faults old.keeper.now) (K.faults new.keeper.now) old.world.now new.world.now line };
 
     ghost later = { λ old new. IsLater old.keeper.ghost_name new.keeper.ghost_name (K.faults old.keeper.now) (K.faults new.keeper.now) };
 

@@ -1,10 +1,8 @@
 -- What sending and delivering leave of a world.
-use Rattle.std.proofs.Common.{◌≡◌, ◌≤◌, ◌+◌, ℕ, List, [], ◌∷◌, ◌++◌, length, Option, Some, None, Result, Ok, Err, refl, sym, ap, ap₂, subst, ◌∙◌, inr}
+use Rattle.std.proofs.Common.{◌≡◌, ◌+◌, ℕ, List, [], ◌∷◌, ◌++◌, length, Option, Some, None, Result, Ok, Err, refl, sym, ap, ap₂, subst, ◌∙◌, inr}
 use Rattle.spec_documents.specs.Tree.{Tree}
 use Rattle.spec_messages.specs.Message.{Message}
-use Rattle.n32_outside.specs.Causes.{Rose}
 use Rattle.spec_records.specs.Records.{Record}
-use Rattle.context_store.specs.Stores.{IsConsistent, Stored}
 use Rattle.http_message.specs.Reading.{message_view}
 use Rattle.spec_exchange.specs.ReceivingRefusals as receiving
 use Rattle.spec_exchange.specs.SendingRefusals as sending
@@ -30,12 +28,12 @@ use Rattle.script_lines.specs.declared.refusal.Refusal.{Refusal}
 use Rattle.script_lines.specs.declared.refusal.Refusal.TheVariants as refusals
 use Rattle.context_calls.specs.Changes.{CallBy}
 use Rattle.replay_world.specs.Refusing.{of_sending, of_receiving}
-use Rattle.replay_world.specs.Worlds.{IsReady, Moment, moment, sites_view, state_of}
-use Rattle.replay_world.specs.Stepping.{Makes, HasPut, GivesUp, Tells, Comes, Handles, StoreStays, Idles}
+use Rattle.replay_world.specs.Worlds.{sites_view, state_of}
+use Rattle.replay_world.specs.Stepping.{Makes, HasPut, GivesUp, Tells, Comes, StoreStays, Idles}
 use Rattle.replay_world.specs.declared.world.World.{World}
 use Rattle.script_lines.specs.declared.unanswered.Unanswered.{Unanswered}
 use Rattle.script_lines.specs.declared.unanswered.Unanswered.TheVariants as unanswered
-use Rattle.replay_world.proofs.Parts.{by_call, gives_up_idly, with_store}
+use Rattle.replay_world.proofs.Parts.{by_call, gives_up_idly}
 
 -- ---- delivering
 
@@ -69,30 +67,13 @@ undelivered_by steps held now old new number node t e c refusal is view h same s
     by_call (λ f records. accepted f records node t) (received.Answers (Err e)) steps delivers held now old new.store (Makes (Tells number (Err (unanswered.Refused refusal))) held now old.wire new) h same
     (λ records o a change. record { told = ap delivery_answer (is o.result a) ∙ ap Refuses view; sites = ap sites_view sites; sent = wire; change = change })
 
-comes_undelivered : (steps : State → Choice → Step) (held now : Option (List (List ℕ))) (old new : World) (number : ℕ) (node : List ℕ) (t : Tree) (e : AcceptFault)
+pub comes_undelivered : (steps : State → Choice → Step) (held now : Option (List (List ℕ))) (old new : World) (number : ℕ) (node : List ℕ) (t : Tree) (e : AcceptFault)
     → received.Accepts held now old.store new.store node t (Err e) → ((records : List Record) (f : Choice) → steps (state_of old records) f ≡ delivers (state_of old records) (accepted f records node t))
     → new.sites ≡ old.sites → new.wire ≡ old.wire → Comes steps held now old new number (Err (of_receiving e))
 comes_undelivered steps held now old new number node t (accepting.Refused r) h same sites wire = undelivered_by steps held now old new number node t (accepting.Refused r) (Own (refused_view r)) (refusals.Receiving r) (λ r a. a) refl h same sites wire
 comes_undelivered steps held now old new number node t (accepting.Journal k) h same sites wire = undelivered_by steps held now old new number node t (accepting.Journal k) (Outside (Journal k)) (refusals.Journal k) (λ r a. a) refl h same sites wire
 comes_undelivered steps held now old new number node t accepting.Keeper h same sites wire = undelivered_by steps held now old new number node t accepting.Keeper (Outside Keeper) refusals.Keeper (λ r a. a) refl h same sites wire
 comes_undelivered steps held now old new number node t accepting.NoMemory h same sites wire = gives_up_idly steps held now old new sites wire h.told
-
-accepting_keeper : (e : AcceptFault) → of_receiving e ≡ unanswered.Refused refusals.Keeper → e ≡ accepting.Keeper
-accepting_keeper (accepting.Refused r) is = cc
-accepting_keeper (accepting.Journal k) is = cc
-accepting_keeper accepting.Keeper is = refl
-accepting_keeper accepting.NoMemory is = cc
-
-pub handles_undelivered : (steps : State → Choice → Step) (before : Moment) (held : Option (List (List ℕ))) (faults : ℕ) (new : Stored) (number : ℕ) (node : List ℕ) (t : Tree) (e : AcceptFault)
-    → received.Accepts before.held held before.world.store new node t (Err e) → ((records : List Record) (f : Choice) → steps (state_of before.world records) f ≡ delivers (state_of before.world records) (accepted f records node t))
-    → IsReady before.held before.world → IsConsistent held new → before.faults ≤ faults → (e ≡ accepting.Keeper → Rose before.faults faults)
-    → Handles steps before (moment (with_store before.world new) held faults) number (Err (of_receiving e))
-handles_undelivered steps before held faults new number node t e h same ready consistent later failed = record {
-  comes = comes_undelivered steps before.held held before.world (with_store before.world new) number node t e h same refl refl;
-  ready = record { consistent = consistent; nodes = ready.nodes; wire = ready.wire };
-  later = later;
-  failed = λ is. let told : of_receiving e ≡ unanswered.Refused refusals.Keeper = cc in failed (accepting_keeper e told);
-}
 
 -- ---- sending
 
@@ -132,30 +113,13 @@ unsealed_by steps held now old new number node id m e c refusal is view h same s
     by_call (λ f records. sends f records node id Asks m) (sent.Answers (Err e)) steps sends_sealed held now old new.store (Makes (Tells number (Err (unanswered.Refused refusal))) held now old.wire new) h same
     (λ records o a change. record { told = ap (sealed_answer (length old.wire + 1)) (is o.result a) ∙ ap Refuses view; sites = ap sites_view sites; sent = wire ∙ unsent_sealed old.wire c o.result (is o.result a); change = change })
 
-comes_unsealed : (steps : State → Choice → Step) (held now : Option (List (List ℕ))) (old new : World) (number : ℕ) (node : List ℕ) (id : ℕ) (m : Message) (e : ProtectFault)
+pub comes_unsealed : (steps : State → Choice → Step) (held now : Option (List (List ℕ))) (old new : World) (number : ℕ) (node : List ℕ) (id : ℕ) (m : Message) (e : ProtectFault)
     → sent.Protects held now old.store new.store node id m (Err e) → ((records : List Record) (f : Choice) → steps (state_of old records) f ≡ sends_sealed (state_of old records) (sends f records node id Asks m))
     → new.sites ≡ old.sites → new.wire ≡ old.wire → Comes steps held now old new number (Err (of_sending e))
 comes_unsealed steps held now old new number node id m (protecting.Refused r) h same sites wire = unsealed_by steps held now old new number node id m (protecting.Refused r) (Own (sent_view r)) (refusals.Sending r) (λ r a. a) refl h same sites wire
 comes_unsealed steps held now old new number node id m (protecting.Journal k) h same sites wire = unsealed_by steps held now old new number node id m (protecting.Journal k) (Outside (Journal k)) (refusals.Journal k) (λ r a. a) refl h same sites wire
 comes_unsealed steps held now old new number node id m protecting.Keeper h same sites wire = unsealed_by steps held now old new number node id m protecting.Keeper (Outside Keeper) refusals.Keeper (λ r a. a) refl h same sites wire
 comes_unsealed steps held now old new number node id m protecting.NoMemory h same sites wire = gives_up_idly steps held now old new sites wire h.told
-
-protecting_keeper : (e : ProtectFault) → of_sending e ≡ unanswered.Refused refusals.Keeper → e ≡ protecting.Keeper
-protecting_keeper (protecting.Refused r) is = cc
-protecting_keeper (protecting.Journal k) is = cc
-protecting_keeper protecting.Keeper is = refl
-protecting_keeper protecting.NoMemory is = cc
-
-pub handles_unsealed : (steps : State → Choice → Step) (before : Moment) (held : Option (List (List ℕ))) (faults : ℕ) (new : Stored) (number : ℕ) (node : List ℕ) (id : ℕ) (m : Message) (e : ProtectFault)
-    → sent.Protects before.held held before.world.store new node id m (Err e) → ((records : List Record) (f : Choice) → steps (state_of before.world records) f ≡ sends_sealed (state_of before.world records) (sends f records node id Asks m))
-    → IsReady before.held before.world → IsConsistent held new → before.faults ≤ faults → (e ≡ protecting.Keeper → Rose before.faults faults)
-    → Handles steps before (moment (with_store before.world new) held faults) number (Err (of_sending e))
-handles_unsealed steps before held faults new number node id m e h same ready consistent later failed = record {
-  comes = comes_unsealed steps before.held held before.world (with_store before.world new) number node id m e h same refl refl;
-  ready = record { consistent = consistent; nodes = ready.nodes; wire = ready.wire };
-  later = later;
-  failed = λ is. let told : of_sending e ≡ unanswered.Refused refusals.Keeper = cc in failed (protecting_keeper e told);
-}
 
 -- ---- putting on the wire
 

@@ -11,7 +11,7 @@ use Rattle.spec_exchange.specs.Outside.{Choice, Reading, Read, ReadFails, BadRec
 use Rattle.spec_script.specs.Events.{line_event}
 use Rattle.spec_script.specs.Steps as spec
 use Rattle.spec_script.specs.Steps.{State, Step, Refuses, after, with_sent, line_step}
-use Rattle.replay_world.specs.Worlds.{Moment, moment, sites_view, state_of, TellsRecords, StepsOver, Steps}
+use Rattle.replay_world.specs.Worlds.{sites_view, state_of, TellsRecords, StepsOver, Steps}
 use Rattle.replay_world.specs.Stepping.{StepBy, Makes, TellsText, LineComes}
 use Rattle.replay_world.specs.declared.world.World.{World}
 use Rattle.replay_world.proofs.Unread.{line_same}
@@ -46,57 +46,57 @@ tells_put texts now records None are kept = record { texts = texts; told = kept;
 tells_put texts now records (Some r) are kept = record { texts = texts ++ written r ∷ []; told = kept.0; are = are_more texts records (written r) r are kept.1 }
 
 -- what a step leaves, whichever the records
-record Leaves (before now : Moment) (texts : List (List ℕ)) (number : ℕ) (text : List ℕ) (r : Step) : Type 0 where
-  pub told : TellsText before.faults now.faults number text r.answer
-  pub sites : sites_view now.world.sites ≡ r.sites
-  pub sent : now.world.wire ≡ with_sent before.world.wire r.sent
-  pub kept : Keeps (Some texts) now.held r.put
+record Leaves (texts : List (List ℕ)) (now : Option (List (List ℕ))) (before after_ : ℕ) (old new : World) (number : ℕ) (text : List ℕ) (r : Step) : Type 0 where
+  pub told : TellsText before after_ number text r.answer
+  pub sites : sites_view new.sites ≡ r.sites
+  pub sent : new.wire ≡ with_sent old.wire r.sent
+  pub kept : Keeps (Some texts) now r.put
 
 state_is : (new : World) (sites : List spec.Site) (wire : List Tree) (records : List Record) → sites_view new.sites ≡ sites → new.wire ≡ wire → state_of new records ≡ record { sites = sites; wire = wire; records = records }
 state_is new sites wire records p q = rw (p, q) refl
 
-steps_from : (before now : Moment) (texts : List (List ℕ)) (records : List Record) (f : Choice) (number : ℕ) (line text : List ℕ)
-    → AreRecords texts records → Leaves before now texts number text (line_step (state_of before.world records) f line) → ((k : ℕ) → f.reading ≡ BadRecord k → IsFirstBad texts k)
-    → StepsOver before now texts records number line text
-steps_from before now texts records f number line text are h bad =
-    let r = line_step (state_of before.world records) f line in
+steps_from : (texts : List (List ℕ)) (now : Option (List (List ℕ))) (before after_ : ℕ) (old new : World) (records : List Record) (f : Choice) (number : ℕ) (line text : List ℕ)
+    → AreRecords texts records → Leaves texts now before after_ old new number text (line_step (state_of old records) f line) → ((k : ℕ) → f.reading ≡ BadRecord k → IsFirstBad texts k)
+    → StepsOver now before after_ old new texts records number line text
+steps_from texts now before after_ old new records f number line text are h bad =
+    let r = line_step (state_of old records) f line in
     record {
       choice = f;
       text_is = h.told.text_is;
-      state_is = state_is now.world r.sites (with_sent before.world.wire r.sent) (with_put records r.put) h.sites h.sent;
-      held_is = tells_put texts now.held records r.put are h.kept;
+      state_is = state_is new r.sites (with_sent old.wire r.sent) (with_put records r.put) h.sites h.sent;
+      held_is = tells_put texts now records r.put are h.kept;
       failed = h.told.failed;
-      journal = λ k e. bad k (line_tells (state_of before.world records) f line k e);
+      journal = λ k e. bad k (line_tells (state_of old records) f line k e);
     }
 
-leaves_from : (before now : Moment) (texts : List (List ℕ)) (number : ℕ) (text : List ℕ) (rs : List Record) (r : Step)
-    → Makes (TellsText before.faults now.faults number text) (Some texts) now.held before.world.wire now.world rs r → Leaves before now texts number text r
-leaves_from before now texts number text rs r h = record { told = h.told; sites = h.sites; sent = h.sent; kept = h.change.told }
+leaves_from : (texts : List (List ℕ)) (now : Option (List (List ℕ))) (before after_ : ℕ) (old new : World) (number : ℕ) (text : List ℕ) (rs : List Record) (r : Step)
+    → Makes (TellsText before after_ number text) (Some texts) now old.wire new rs r → Leaves texts now before after_ old new number text r
+leaves_from texts now before after_ old new number text rs r h = record { told = h.told; sites = h.sites; sent = h.sent; kept = h.change.told }
 
 -- whichever records a step went by, it is one over those that are held
-over_held : (before now : Moment) (texts : List (List ℕ)) (records : List Record) (number : ℕ) (line text : List ℕ) → AreRecords texts records
-    → StepBy (λ s f. line_step s f line) (Some texts) before.world (Makes (TellsText before.faults now.faults number text) (Some texts) now.held before.world.wire now.world) → StepsOver before now texts records number line text
-over_held before now texts records number line text are h = by_reading h.choice.reading refl
+over_held : (texts : List (List ℕ)) (now : Option (List (List ℕ))) (before after_ : ℕ) (old new : World) (records : List Record) (number : ℕ) (line text : List ℕ) → AreRecords texts records
+    → StepBy (λ s f. line_step s f line) (Some texts) old (Makes (TellsText before after_ number text) (Some texts) now old.wire new) → StepsOver now before after_ old new texts records number line text
+over_held texts now before after_ old new records number line text are h = by_reading h.choice.reading refl
   where
-    unread : (h.choice.reading ≡ Read → ⊥) → StepsOver before now texts records number line text
+    unread : (h.choice.reading ≡ Read → ⊥) → StepsOver now before after_ old new texts records number line text
     unread not_read =
-        let same = line_same (sites_view before.world.sites) before.world.wire h.records records h.choice not_read (line_event line) in
-        steps_from before now texts records h.choice number line text are
-        (subst (λ (r : Step). Leaves before now texts number text r) same.is (leaves_from before now texts number text h.records (line_step (state_of before.world h.records) h.choice line) h.leaves))
+        let same = line_same (sites_view old.sites) old.wire h.records records h.choice not_read (line_event line) in
+        steps_from texts now before after_ old new records h.choice number line text are
+        (subst (λ (r : Step). Leaves texts now before after_ old new number text r) same.is (leaves_from texts now before after_ old new number text h.records (line_step (state_of old h.records) h.choice line) h.leaves))
         h.chosen.bad
 
-    by_reading : (reading : Reading) → h.choice.reading ≡ reading → StepsOver before now texts records number line text
+    by_reading : (reading : Reading) → h.choice.reading ≡ reading → StepsOver now before after_ old new texts records number line text
     by_reading Read e =
         let same : h.records ≡ records = are_one texts h.records records (h.chosen.read e) are in
-        steps_from before now texts records h.choice number line text are
-        (subst (λ (rs : List Record). Leaves before now texts number text (line_step (state_of before.world rs) h.choice line)) same (leaves_from before now texts number text h.records (line_step (state_of before.world h.records) h.choice line) h.leaves))
+        steps_from texts now before after_ old new records h.choice number line text are
+        (subst (λ (rs : List Record). Leaves texts now before after_ old new number text (line_step (state_of old rs) h.choice line)) same (leaves_from texts now before after_ old new number text h.records (line_step (state_of old h.records) h.choice line) h.leaves))
         h.chosen.bad
     by_reading ReadFails e = unread (λ r. cc)
     by_reading (BadRecord n) e = unread (λ r. cc)
 
-pub steps_told : (world : World) (held : Option (List (List ℕ))) (faults : ℕ) (now : Moment) (number : ℕ) (line : List ℕ) (result : Result (List ℕ) NoMemory) → LineComes (moment world held faults) now number line result
-    → IfOk result (λ text. Steps (moment world held faults) now number line text)
-steps_told world None faults now number line (Ok text) h = tt
-steps_told world None faults now number line (Err e) h = tt
-steps_told world (Some texts) faults now number line (Ok text) h = λ records are. over_held (moment world (Some texts) faults) now texts records number line text are h
-steps_told world (Some texts) faults now number line (Err e) h = tt
+pub steps_told : (held now : Option (List (List ℕ))) (before after_ : ℕ) (old new : World) (number : ℕ) (line : List ℕ) (result : Result (List ℕ) NoMemory) → LineComes held now before after_ old new number line result
+    → IfOk result (λ text. Steps held now before after_ old new number line text)
+steps_told None now before after_ old new number line (Ok text) h = tt
+steps_told None now before after_ old new number line (Err e) h = tt
+steps_told (Some texts) now before after_ old new number line (Ok text) h = λ records are. over_held texts now before after_ old new records number line text are h
+steps_told (Some texts) now before after_ old new number line (Err e) h = tt

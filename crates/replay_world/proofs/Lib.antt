@@ -9,4 +9,3 @@ pub mod Unread
 pub mod Journals
 pub mod Held
 pub mod Printed
-pub mod Handled

@@ -1,5 +1,5 @@
 -- The answer to a line, once its text is printed.
-use Rattle.std.proofs.Common.{◌≡◌, ℕ, List, true, false, Option, IfOk, Result, Ok, Err, refl, sym, ap, subst, ◌∙◌, inr}
+use Rattle.std.proofs.Common.{◌≡◌, ℕ, List, true, false, Option, IfOk, Result, Ok, Err, refl, sym, subst, ◌∙◌, inr}
 use Rattle.n32_outside.specs.Causes.{Rose}
 use Rattle.n32_values.specs.declared.memory.NoMemory.{NoMemory}
 use Rattle.spec_exchange.specs.Outside.{Choice}
@@ -10,8 +10,8 @@ use Rattle.spec_script.specs.Output.{has_refusal, is_keeper_refusal}
 use Rattle.script_lines.specs.View.{refusal_view}
 use Rattle.script_lines.specs.declared.refusal.Refusal.{Refusal}
 use Rattle.script_lines.specs.declared.refusal.Refusal.TheVariants as refusals
-use Rattle.replay_world.specs.Worlds.{Moment, state_of}
-use Rattle.replay_world.specs.Stepping.{StepBy, Makes, GivesUp, Tells, Handles, TellsText, LineComes, is_refusal}
+use Rattle.replay_world.specs.Worlds.{state_of}
+use Rattle.replay_world.specs.Stepping.{StepBy, Makes, GivesUp, Tells, Comes, TellsText, LineComes, is_refusal}
 use Rattle.replay_world.specs.declared.world.World.{World}
 use Rattle.script_lines.specs.declared.unanswered.Unanswered.TheVariants as unanswered
 
@@ -54,9 +54,10 @@ told_so steps held now old new P Q f h = record {
   leaves = record { told = f (steps (state_of old h.records) h.choice).answer h.leaves.told; sites = h.leaves.sites; sent = h.leaves.sent; change = h.leaves.change };
 }
 
-pub printed_ok : (before now : Moment) (number : ℕ) (line text : List ℕ) → Handles (λ s f. line_step s f line) before now number (Ok text) → LineComes before now number line (Ok text)
-printed_ok before now number line text h =
-    told_so (λ s f. line_step s f line) before.held now.held before.world now.world (Tells number (Ok text)) (TellsText before.faults now.faults number text) (λ a p. record { text_is = p.0; failed = λ e. let other = no_refusal a p.1 in cc }) h.comes
+pub printed_ok : (held now : Option (List (List ℕ))) (before after_ : ℕ) (old new : World) (number : ℕ) (line text : List ℕ)
+    → Comes (λ s f. line_step s f line) held now old new number (Ok text) → LineComes held now before after_ old new number line (Ok text)
+printed_ok held now before after_ old new number line text h =
+    told_so (λ s f. line_step s f line) held now old new (Tells number (Ok text)) (TellsText before after_ number text) (λ a p. record { text_is = p.0; failed = λ e. let other = no_refusal a p.1 in cc }) h
 
 refusal_told : (before after_ : ℕ) (number : ℕ) (text : List ℕ) (refusal : Refusal) (a : Answer) → text ≡ answer_text number (Refuses (refusal_view refusal)) → (refusal ≡ refusals.Keeper → Rose before after_) → a ≡ Refuses (refusal_view refusal) → TellsText before after_ number text a
 refusal_told before after_ number text refusal a is failed same =
@@ -75,9 +76,9 @@ unprinted held now old new number line refusal keeps h = record {
   kept = inr (record { choice = h.choice; records = h.records; chosen = h.chosen; leaves = h.leaves.change.told });
 }
 
-pub printed_refusal : (before now : Moment) (number : ℕ) (line : List ℕ) (refusal : Refusal) (result : Result (List ℕ) NoMemory) → KeepsState line
-    → IfOk result (λ text. text ≡ answer_text number (Refuses (refusal_view refusal))) → Handles (λ s f. line_step s f line) before now number (Err (unanswered.Refused refusal)) → LineComes before now number line result
-printed_refusal before now number line refusal (Ok text) keeps is h =
-    told_so (λ s f. line_step s f line) before.held now.held before.world now.world (Tells number (Err (unanswered.Refused refusal))) (TellsText before.faults now.faults number text)
-    (λ a p. refusal_told before.faults now.faults number text refusal a is (λ e. h.failed (ap (λ (r : Refusal). Err (unanswered.Refused r)) e)) p) h.comes
-printed_refusal before now number line refusal (Err e) keeps is h = unprinted before.held now.held before.world now.world number line refusal keeps h.comes
+pub printed_refusal : (held now : Option (List (List ℕ))) (before after_ : ℕ) (old new : World) (number : ℕ) (line : List ℕ) (refusal : Refusal) (result : Result (List ℕ) NoMemory) → KeepsState line
+    → IfOk result (λ text. text ≡ answer_text number (Refuses (refusal_view refusal))) → (refusal ≡ refusals.Keeper → Rose before after_)
+    → Comes (λ s f. line_step s f line) held now old new number (Err (unanswered.Refused refusal)) → LineComes held now before after_ old new number line result
+printed_refusal held now before after_ old new number line refusal (Ok text) keeps is failed h =
+    told_so (λ s f. line_step s f line) held now old new (Tells number (Err (unanswered.Refused refusal))) (TellsText before after_ number text) (λ a p. refusal_told before after_ number text refusal a is failed p) h
+printed_refusal held now before after_ old new number line refusal (Err e) keeps is failed h = unprinted held now old new number line refusal keeps h

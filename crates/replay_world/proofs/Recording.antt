@@ -1,7 +1,6 @@
 -- What reading the store and putting a record leave of a world.
 use Rattle.std.proofs.Common.{◌≡◌, ◌⊎◌, ⊎_elim, ◌<◌, ◌≤◌, ℕ, List, [], ◌∷◌, ◌++◌, length, true, false, Option, Some, IfSome, Result, Ok, Err, refl, sym, ap, subst, ◌∙◌, inl, inr}
 use Rattle.spec_records.specs.Records.{Record, record_limit}
-use Rattle.n32_outside.specs.Causes.{Rose}
 use Rattle.n32_outside.specs.Contents.{Stays, Gains}
 use Rattle.context_records.specs.Reading.{ReadsRecord, written}
 use Rattle.context_store.specs.Stores.{Stored, IsConsistent, IsFirstBad, NamesBad}
@@ -19,13 +18,13 @@ use Rattle.block_forms.specs.declared.fault.LimitName.TheVariants as limits
 use Rattle.script_lines.specs.declared.refusal.Refusal as declared
 use Rattle.script_lines.specs.declared.refusal.Refusal.TheVariants as refusals
 use Rattle.replay_world.specs.Refusing.{of_opening, of_adding}
-use Rattle.replay_world.specs.Worlds.{IsReady, Moment, moment, sites_view, state_of}
-use Rattle.replay_world.specs.Stepping.{StepBy, Makes, Tells, Comes, Handles}
+use Rattle.replay_world.specs.Worlds.{sites_view, state_of}
+use Rattle.replay_world.specs.Stepping.{StepBy, Makes, Tells, Comes}
 use Rattle.replay_world.specs.Handing.{puts_record}
 use Rattle.replay_world.specs.declared.world.World.{World}
 use Rattle.script_lines.specs.declared.unanswered.Unanswered.{Unanswered}
 use Rattle.script_lines.specs.declared.unanswered.Unanswered.TheVariants as unanswered
-use Rattle.replay_world.proofs.Parts.{chosen_fresh, gives_up_idly, with_store}
+use Rattle.replay_world.proofs.Parts.{chosen_fresh, gives_up_idly}
 use Rattle.replay_world.proofs.EventSteps.{has_room, no_room}
 
 -- ---- the store isn't read
@@ -51,7 +50,7 @@ unread_by steps held now old new number f refusal same not_read bad before stale
 }
 
 -- the store was to be read, and a fault came
-comes_unread : (steps : State → Choice → Step) (later : State → Choice → Result Step Refusal) (held now : Option (List (List ℕ))) (old new : World) (number : ℕ) (e : OpenFault)
+pub comes_unread : (steps : State → Choice → Step) (later : State → Choice → Result Step Refusal) (held now : Option (List (List ℕ))) (old new : World) (number : ℕ) (e : OpenFault)
     → ((records : List Record) (f : Choice) → steps (state_of old records) f ≡ or_refuses (state_of old records) (has_read f.reading >>= λ _. later (state_of old records) f))
     → (old.store.fresh ≡ true → ⊥) → new.store.fresh ≡ false → NamesBad held e → Stays held now → new.sites ≡ old.sites → new.wire ≡ old.wire
     → Comes steps held now old new number (Err (of_opening e))
@@ -63,32 +62,6 @@ comes_unread steps later held now old new number opening.Keeper same before stal
     let f : Choice = record { reading = ReadFails; putting = Kept } in
     unread_by steps held now old new number f refusals.Keeper (same [] f ∙ reads_not (state_of old []) (later (state_of old []) f)) (λ e. cc) (λ j e. cc) before stale stays sites wire
 comes_unread steps later held now old new number opening.NoMemory same before stale bad stays sites wire = gives_up_idly steps held now old new sites wire stays
-
--- what a fault of a read leaves
-pub record FailsToRead (before : Moment) (held : Option (List (List ℕ))) (faults : ℕ) (new : Stored) (e : OpenFault) : Type 0 where
-  pub ready : IsReady before.held before.world
-  pub was_stale : before.world.store.fresh ≡ true → ⊥
-  pub stale : new.fresh ≡ false
-  pub bad : NamesBad before.held e
-  pub stays : Stays before.held held
-  pub consistent : IsConsistent held new
-  pub later : before.faults ≤ faults
-  pub failed : e ≡ opening.Keeper → Rose before.faults faults
-
-opening_keeper : (e : OpenFault) → of_opening e ≡ unanswered.Refused refusals.Keeper → e ≡ opening.Keeper
-opening_keeper (opening.Journal k) is = cc
-opening_keeper opening.Keeper is = refl
-opening_keeper opening.NoMemory is = cc
-
-pub handles_unread : (steps : State → Choice → Step) (later : State → Choice → Result Step Refusal) (before : Moment) (held : Option (List (List ℕ))) (faults : ℕ) (new : Stored) (number : ℕ) (e : OpenFault)
-    → ((records : List Record) (f : Choice) → steps (state_of before.world records) f ≡ or_refuses (state_of before.world records) (has_read f.reading >>= λ _. later (state_of before.world records) f))
-    → FailsToRead before held faults new e → Handles steps before (moment (with_store before.world new) held faults) number (Err (of_opening e))
-handles_unread steps later before held faults new number e same h = record {
-  comes = comes_unread steps later before.held held before.world (with_store before.world new) number e same h.was_stale h.stale h.bad h.stays refl refl;
-  ready = record { consistent = h.consistent; nodes = h.ready.nodes; wire = h.ready.wire };
-  later = h.later;
-  failed = λ is. let told : of_opening e ≡ unanswered.Refused refusals.Keeper = cc in h.failed (opening_keeper e told);
-}
 
 -- ---- a record is put, over a fresh store
 
@@ -142,7 +115,7 @@ pub record Unput (r : Record) (held now : Option (List (List ℕ))) (old new : S
   pub reads : e ≡ adding.Keeper → ReadsRecord (written r) r
   pub same : (e ≡ adding.Limit) ⊎ (e ≡ adding.NoMemory) → (new ≡ old) × Stays held now
 
-comes_unrecorded : (name : List ℕ) (r : Record) (held now : Option (List (List ℕ))) (old new : World) (number : ℕ) (e : AddFault)
+pub comes_unrecorded : (name : List ℕ) (r : Record) (held now : Option (List (List ℕ))) (old new : World) (number : ℕ) (e : AddFault)
     → old.store.fresh ≡ true → IsConsistent held old.store → Unput r held now old.store new.store e → new.sites ≡ old.sites → new.wire ≡ old.wire
     → Comes (puts_record name r) held now old new number (Err (of_adding e))
 comes_unrecorded name r held now old new number adding.Limit fresh consistent h sites wire =
@@ -151,18 +124,3 @@ comes_unrecorded name r held now old new number adding.Keeper fresh consistent h
     comes_lost name r held now old new number fresh consistent (h.room refl) (h.stale refl) (h.perhaps refl) (h.reads refl) sites wire
 comes_unrecorded name r held now old new number adding.NoMemory fresh consistent h sites wire =
     gives_up_idly (puts_record name r) held now old new sites wire (h.same (inr refl)).1
-
-adding_keeper : (e : AddFault) → of_adding e ≡ unanswered.Refused refusals.Keeper → e ≡ adding.Keeper
-adding_keeper adding.Limit is = cc
-adding_keeper adding.Keeper is = refl
-adding_keeper adding.NoMemory is = cc
-
-pub handles_unrecorded : (name : List ℕ) (r : Record) (before now : Moment) (number : ℕ) (e : AddFault)
-    → before.world.store.fresh ≡ true → IsReady before.held before.world → Unput r before.held now.held before.world.store now.world.store e → now.world.sites ≡ before.world.sites → now.world.wire ≡ before.world.wire
-    → IsReady now.held now.world → before.faults ≤ now.faults → (e ≡ adding.Keeper → Rose before.faults now.faults) → Handles (puts_record name r) before now number (Err (of_adding e))
-handles_unrecorded name r before now number e fresh was h sites wire ready later failed = record {
-  comes = comes_unrecorded name r before.held now.held before.world now.world number e fresh was.consistent h sites wire;
-  ready = ready;
-  later = later;
-  failed = λ is. let told : of_adding e ≡ unanswered.Refused refusals.Keeper = cc in failed (adding_keeper e told);
-}

@@ -12,8 +12,7 @@ use Rattle.spec_script.specs.Answers.{answer_text}
 use Rattle.spec_script.specs.Output.{has_refusal, is_keeper_refusal}
 use Rattle.n32_outside.specs.Causes.{Rose}
 use Rattle.script_lines.specs.View.{refusal_view}
-use Rattle.script_lines.specs.declared.refusal.Refusal.TheVariants as refusals
-use Rattle.replay_world.specs.Worlds.{IsReady, Moment, sites_view, state_of}
+use Rattle.replay_world.specs.Worlds.{sites_view, state_of}
 use Rattle.replay_world.specs.declared.world.World.{World}
 use Rattle.script_lines.specs.declared.unanswered.Unanswered.{Unanswered}
 use Rattle.script_lines.specs.declared.unanswered.Unanswered.TheVariants as unanswered
@@ -71,23 +70,15 @@ abbrev pub Comes : (State → Choice → Step) → (held now : Option (List (Lis
 Comes steps held now old new number (Err unanswered.NoMemory) = GivesUp steps held now old new
 Comes steps held now old new number result = StepBy steps held old (Makes (Tells number result) held now old.wire new)
 
--- what a handler owes: the part of the step that it is, a world that is ready for what follows, and a fault of the keeper only where its count rose
-pub record Handles (steps : State → Choice → Step) (before now : Moment) (number : ℕ) (result : Result (List ℕ) Unanswered) : Type 0 where
-  pub comes : Comes steps before.held now.held before.world now.world number result
-  pub ready : IsReady now.held now.world
-  pub later : before.faults ≤ now.faults
-  pub failed : result ≡ Err (unanswered.Refused refusals.Keeper) → Rose before.faults now.faults
-
 -- the text of the answer, and KEEPER only where the keeper's count rose
 pub record TellsText (before after_ : ℕ) (number : ℕ) (text : List ℕ) (a : Answer) : Type 0 where
   pub text_is : text ≡ answer_text number a
   pub failed : has_refusal is_keeper_refusal a ≡ true → Rose before after_
 
 -- the step of a line
-abbrev pub LineComes : (before now : Moment) → (number : ℕ) → (line : List ℕ) → Result (List ℕ) NoMemory → Type 0
-LineComes before now number line (Ok text) =
-    StepBy (λ s f. line_step s f line) before.held before.world (Makes (TellsText before.faults now.faults number text) before.held now.held before.world.wire now.world)
-LineComes before now number line (Err e) = GivesUp (λ s f. line_step s f line) before.held now.held before.world now.world
+abbrev pub LineComes : (held now : Option (List (List ℕ))) → (before after_ : ℕ) → (old new : World) → (number : ℕ) → (line : List ℕ) → Result (List ℕ) NoMemory → Type 0
+LineComes held now before after_ old new number line (Ok text) = StepBy (λ s f. line_step s f line) held old (Makes (TellsText before after_ number text) held now old.wire new)
+LineComes held now before after_ old new number line (Err e) = GivesUp (λ s f. line_step s f line) held now old new
 
 -- ---- parts that do without the keeper
 

@@ -41,17 +41,6 @@ pub record IsReady (held : Option (List (List ℕ))) (w : World) : Type 0 where
   pub nodes : AreDistinct (sites_view w.sites)
   pub wire : AllByRecursion IsShallow w.wire
 
--- ---- a moment
-
--- a world, what its keeper holds, and how often the keeper has failed
-pub record Moment : Type 0 where
-  pub world : World
-  pub held : Option (List (List ℕ))
-  pub faults : ℕ
-
-abbrev pub moment : World → Option (List (List ℕ)) → ℕ → Moment
-moment world held faults = record { world = world; held = held; faults = faults }
-
 -- ---- a step over the records that are held
 
 -- the keeper tells, and what it holds are these records
@@ -61,18 +50,18 @@ pub record TellsRecords (held : Option (List (List ℕ))) (records : List Record
   pub are : AreRecords texts records
 
 -- the line of this number is answered over these records: by the step of the line under some choice of the keeper
-pub record StepsOver (before now : Moment) (texts : List (List ℕ)) (records : List Record) (number : ℕ) (line text : List ℕ) : Type 0 where
+pub record StepsOver (now : Option (List (List ℕ))) (before after_ : ℕ) (old new : World) (texts : List (List ℕ)) (records : List Record) (number : ℕ) (line text : List ℕ) : Type 0 where
   pub choice : Choice
-  pub text_is : text ≡ answer_text number (line_step (state_of before.world records) choice line).answer
+  pub text_is : text ≡ answer_text number (line_step (state_of old records) choice line).answer
   -- the world, over what is held then, is the state after the step
-  pub state_is : state_of now.world (with_put records (line_step (state_of before.world records) choice line).put) ≡ after (state_of before.world records) (line_step (state_of before.world records) choice line)
-  pub held_is : TellsRecords now.held (with_put records (line_step (state_of before.world records) choice line).put)
+  pub state_is : state_of new (with_put records (line_step (state_of old records) choice line).put) ≡ after (state_of old records) (line_step (state_of old records) choice line)
+  pub held_is : TellsRecords now (with_put records (line_step (state_of old records) choice line).put)
   -- a fault of the keeper is told only where its count rose
-  pub failed : has_refusal is_keeper_refusal (line_step (state_of before.world records) choice line).answer ≡ true → Rose before.faults now.faults
+  pub failed : has_refusal is_keeper_refusal (line_step (state_of old records) choice line).answer ≡ true → Rose before after_
   -- a bad record is told only where it is the first
-  pub journal : (k : ℕ) → (line_step (state_of before.world records) choice line).answer ≡ Refuses (OfOutside (Journal k)) → IsFirstBad texts k
+  pub journal : (k : ℕ) → (line_step (state_of old records) choice line).answer ≡ Refuses (OfOutside (Journal k)) → IsFirstBad texts k
 
 -- where the keeper tells texts that are all records
-abbrev pub Steps : (before now : Moment) → (number : ℕ) → (line text : List ℕ) → Type 0
-Steps before now number line text =
-    IfSome before.held (λ texts. (records : List Record) → AreRecords texts records → StepsOver before now texts records number line text)
+abbrev pub Steps : (held now : Option (List (List ℕ))) → (before after_ : ℕ) → (old new : World) → (number : ℕ) → (line text : List ℕ) → Type 0
+Steps held now before after_ old new number line text =
+    IfSome held (λ texts. (records : List Record) → AreRecords texts records → StepsOver now before after_ old new texts records number line text)

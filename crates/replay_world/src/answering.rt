@@ -1,10 +1,11 @@
 // The answer to a line.
-ghost use Rattle.std.specs.Prelude.{◌≡◌, ◌≤◌, IfOk};
+ghost use Rattle.std.specs.Prelude.{◌≡◌, ◌≤◌, IfOk, IsErrOf};
+ghost use Rattle.n32_outside.specs.Causes.{Rose};
 ghost use Rattle.spec_script.specs.Answers.{answer_text};
 ghost use Rattle.spec_script.specs.Steps as spec;
 ghost use Rattle.script_lines.specs.View.{event_view, refusal_view};
-ghost use Rattle.replay_world.specs.Worlds.{IsReady, Steps, moment};
-ghost use Rattle.replay_world.specs.Stepping.{Handles, LineComes};
+ghost use Rattle.replay_world.specs.Worlds.{IsReady, Steps};
+ghost use Rattle.replay_world.specs.Stepping.{Comes, LineComes};
 ghost use Rattle.replay_world.specs.Fitting.{IsFit};
 
 use crate::handing_in::{hand_in_context, hand_in_keys};
@@ -27,8 +28,10 @@ fn answer_event<K: Keeper>(
 ) -> Result<Bytes, Unanswered>
     requires ready { IsReady (K.held keeper.old) world.old }
     requires fit { IsFit (event_view event) }
-    ensures { Handles (λ s f. spec.step s f (event_view event)) (moment world.old (K.held keeper.old) (K.faults keeper.old))
-        (moment world.new (K.held keeper.new) (K.faults keeper.new)) number result }
+    ensures comes { Comes (λ s f. spec.step s f (event_view event)) (K.held keeper.old) (K.held keeper.new) world.old world.new number result }
+    ensures ready { IsReady (K.held keeper.new) world.new }
+    ensures later { K.faults keeper.old ≤ K.faults keeper.new }
+    ensures failed { IsErrOf result (Unanswered.Refused Refusal.Keeper) → Rose (K.faults keeper.old) (K.faults keeper.new) }
 {
     match event {
         Event::Node { node, plmn } => add_node(alloc, world, number, node, plmn),
@@ -56,8 +59,10 @@ fn answer_line<K: Keeper>(
     line: &[u8],
 ) -> Result<Bytes, Unanswered>
     requires { IsReady (K.held keeper.old) world.old }
-    ensures { Handles (λ s f. spec.line_step s f line.now) (moment world.old (K.held keeper.old) (K.faults keeper.old))
-        (moment world.new (K.held keeper.new) (K.faults keeper.new)) number result }
+    ensures comes { Comes (λ s f. spec.line_step s f line.now) (K.held keeper.old) (K.held keeper.new) world.old world.new number result }
+    ensures ready { IsReady (K.held keeper.new) world.new }
+    ensures later { K.faults keeper.old ≤ K.faults keeper.new }
+    ensures failed { IsErrOf result (Unanswered.Refused Refusal.Keeper) → Rose (K.faults keeper.old) (K.faults keeper.new) }
 {
     let event = match read_line_event(alloc, line) {
         Ok(event) => event,
@@ -81,8 +86,7 @@ fn text_of_answer<K: Keeper>(
     line: &[u8],
 ) -> Result<Bytes, NoMemory>
     requires { IsReady (K.held keeper.old) world.old }
-    ensures comes { LineComes (moment world.old (K.held keeper.old) (K.faults keeper.old))
-        (moment world.new (K.held keeper.new) (K.faults keeper.new)) number line.now result }
+    ensures comes { LineComes (K.held keeper.old) (K.held keeper.new) (K.faults keeper.old) (K.faults keeper.new) world.old world.new number line.now result }
     ensures ready { IsReady (K.held keeper.new) world.new }
     ensures later { K.faults keeper.old ≤ K.faults keeper.new }
 {
@@ -118,12 +122,10 @@ pub fn step<K: Keeper>(
 
     // The answer and what it leaves are those of the step of the line, over the records that a fresh store has or
     // that are held, and under some choice of the keeper.
-    ensures comes { LineComes (moment world.old (K.held keeper.old) (K.faults keeper.old))
-        (moment world.new (K.held keeper.new) (K.faults keeper.new)) number line.now result }
+    ensures comes { LineComes (K.held keeper.old) (K.held keeper.new) (K.faults keeper.old) (K.faults keeper.new) world.old world.new number line.now result }
 
     // Where the keeper tells texts that are all records, these are the records.
-    ensures steps { IfOk result (λ text. Steps (moment world.old (K.held keeper.old) (K.faults keeper.old))
-        (moment world.new (K.held keeper.new) (K.faults keeper.new)) number line.now text) }
+    ensures steps { IfOk result (λ text. Steps (K.held keeper.old) (K.held keeper.new) (K.faults keeper.old) (K.faults keeper.new) world.old world.new number line.now text) }
     ensures later { K.faults keeper.old ≤ K.faults keeper.new }
 {
     text_of_answer(alloc, world, keeper, number, line)

@@ -1,7 +1,8 @@
 // Documents: sent, put on the wire and delivered.
-ghost use Rattle.std.specs.Prelude.{◌≡◌, ◌≤◌, ◌+◌, ◌++◌, [], ◌∷◌, length, IfOk, OnOk, OnErr, IsTrue, option_map, List, Option, ℕ};
+ghost use Rattle.std.specs.Prelude.{◌≡◌, ◌≤◌, ◌+◌, ◌++◌, [], ◌∷◌, length, IfOk, OnOk, OnErr, IsErrOf, IsTrue, option_map, List, Option, ℕ};
 ghost use Rattle.spec_messages.specs.Message.{is_whole, body_depth, kind_of, of_request};
 ghost use Rattle.n32_values.specs.View.{tree_of};
+ghost use Rattle.n32_outside.specs.Causes.{Rose};
 ghost use Rattle.http_message.specs.Reading.{message_view};
 ghost use Rattle.spec_script.specs.Events.{Deliver, Inject, Send};
 ghost use Rattle.spec_exchange.specs.Calls.{Asks, sends};
@@ -9,19 +10,17 @@ ghost use Rattle.script_lines.specs.AnswerTexts.{sealed_answer};
 ghost use Rattle.spec_script.specs.Steps as spec;
 ghost use Rattle.spec_documents.specs.Gives.{Gives};
 ghost use Rattle.script_lines.specs.Unanswered.{SparesKeeper, told_refusal};
-ghost use Rattle.replay_world.specs.Worlds.{IsReady, IsShallow, moment};
-ghost use Rattle.replay_world.specs.Stepping.{ComesIdly, Handles};
+ghost use Rattle.replay_world.specs.Worlds.{IsReady, IsShallow};
+ghost use Rattle.replay_world.specs.Stepping.{Comes, ComesIdly};
 
-use crate::faults::{undelivered, unsent};
 use crate::sites::is_known;
+use crate::faults::{undelivered, unsent};
 use crate::world::World;
 use http_message::{Kind, Message};
 use n32_outside::Keeper;
 use n32_values::{Bytes, Doc, DocList, Hex64, NoMemory, Node, Text, Whole};
 use receiving_sepp::accept;
-use script_lines::{
-    Refusal, Unanswered, delivered_text, read_line_message, sealed_text, wire_text,
-};
+use script_lines::{Refusal, Unanswered, delivered_text, read_line_message, sealed_text, wire_text};
 use sending_sepp::protect;
 use std::alloc::Global;
 
@@ -101,8 +100,10 @@ fn send_request<K: Keeper>(
     requires whole { IsTrue (is_whole (message_view request.now)) }
     requires shallow { body_depth (message_view request.now).body ≤ 64 }
     requires kind { kind_of (message_view request.now) ≡ of_request }
-    ensures { Handles (λ s f. spec.sends_sealed s (sends f s.records node.now id.value Asks (message_view request.now))) (moment world.old (K.held keeper.old) (K.faults keeper.old))
-        (moment world.new (K.held keeper.new) (K.faults keeper.new)) number result }
+    ensures comes { Comes (λ s f. spec.sends_sealed s (sends f s.records node.now id.value Asks (message_view request.now))) (K.held keeper.old) (K.held keeper.new) world.old world.new number result }
+    ensures ready { IsReady (K.held keeper.new) world.new }
+    ensures later { K.faults keeper.old ≤ K.faults keeper.new }
+    ensures failed { IsErrOf result (Unanswered.Refused Refusal.Keeper) → Rose (K.faults keeper.old) (K.faults keeper.new) }
 {
     match protect(alloc, &mut world.store, keeper, node, id, request) {
         Ok(document) => Ok(put_sealed(alloc, &mut world.wire, number, document)?),
@@ -122,8 +123,10 @@ pub(crate) fn send<K: Keeper>(
     answers: Option<Hex64>,
 ) -> Result<Bytes, Unanswered>
     requires { IsReady (K.held keeper.old) world.old }
-    ensures { Handles (λ s f. spec.step s f (Send node.now id.value (tree_of message.now) (option_map (λ i. i.value) answers))) (moment world.old (K.held keeper.old) (K.faults keeper.old))
-        (moment world.new (K.held keeper.new) (K.faults keeper.new)) number result }
+    ensures comes { Comes (λ s f. spec.step s f (Send node.now id.value (tree_of message.now) (option_map (λ i. i.value) answers))) (K.held keeper.old) (K.held keeper.new) world.old world.new number result }
+    ensures ready { IsReady (K.held keeper.new) world.new }
+    ensures later { K.faults keeper.old ≤ K.faults keeper.new }
+    ensures failed { IsErrOf result (Unanswered.Refused Refusal.Keeper) → Rose (K.faults keeper.old) (K.faults keeper.new) }
 {
     if !is_known(&world.sites, node) {
         return Err(Unanswered::Refused(Refusal::NodeUnknown));
@@ -162,8 +165,10 @@ pub(crate) fn deliver<K: Keeper>(
     wire: &Whole,
 ) -> Result<Bytes, Unanswered>
     requires { IsReady (K.held keeper.old) world.old }
-    ensures { Handles (λ s f. spec.step s f (Deliver node.now wire.now)) (moment world.old (K.held keeper.old) (K.faults keeper.old))
-        (moment world.new (K.held keeper.new) (K.faults keeper.new)) number result }
+    ensures comes { Comes (λ s f. spec.step s f (Deliver node.now wire.now)) (K.held keeper.old) (K.held keeper.new) world.old world.new number result }
+    ensures ready { IsReady (K.held keeper.new) world.new }
+    ensures later { K.faults keeper.old ≤ K.faults keeper.new }
+    ensures failed { IsErrOf result (Unanswered.Refused Refusal.Keeper) → Rose (K.faults keeper.old) (K.faults keeper.new) }
 {
     if !is_known(&world.sites, node) {
         return Err(Unanswered::Refused(Refusal::NodeUnknown));
