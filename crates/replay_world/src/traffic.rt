@@ -13,14 +13,16 @@ ghost use Rattle.script_lines.specs.Unanswered.{SparesKeeper, told_refusal};
 ghost use Rattle.replay_world.specs.Worlds.{IsReady, IsShallow};
 ghost use Rattle.replay_world.specs.Stepping.{Comes, ComesIdly};
 
-use crate::sites::is_known;
 use crate::faults::{undelivered, unsent};
+use crate::sites::is_known;
 use crate::world::World;
 use http_message::{Kind, Message};
 use n32_outside::Keeper;
 use n32_values::{Bytes, Doc, DocList, Hex64, NoMemory, Node, Text, Whole};
 use receiving_sepp::accept;
-use script_lines::{Refusal, Unanswered, delivered_text, read_line_message, sealed_text, wire_text};
+use script_lines::{
+    Refusal, Unanswered, delivered_text, read_line_message, sealed_text, wire_text,
+};
 use sending_sepp::protect;
 use std::alloc::Global;
 

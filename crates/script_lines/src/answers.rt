@@ -8,9 +8,9 @@ ghost use Rattle.spec_script.specs.Answers.{answer_text, number_tree, with_detai
 ghost use Rattle.script_lines.specs.AnswerTexts.{delivered_answer, document_in, sealed_answer};
 ghost use Rattle.script_lines.specs.View.{refusal_view};
 
-use crate::refusal_detail::detail_text;
 use crate::answer_messages::message_node;
 use crate::refusal::Refusal;
+use crate::refusal_detail::detail_text;
 use doc_forms::{put, put_text};
 use http_message::Message;
 use n32_values::{Bytes, Doc, Hex64, NoMemory, Node, NodeMap, Text, Whole, doc_text, hex64_text};

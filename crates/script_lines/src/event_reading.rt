@@ -6,9 +6,9 @@ ghost use Rattle.script_lines.specs.View.{event_view};
 ghost use Rattle.script_lines.specs.EventReading.{Gives};
 
 use crate::event::{Event, HandedContext};
+use crate::event_fault::EventRead;
 use crate::event_kind::{EventKind, kind_of};
 use crate::event_member::EventMember;
-use crate::event_fault::EventRead;
 use crate::event_values::{
     answers_at, first_at, id_at, ipx_at, key_pair_at, name_at, network_at, suite_at, take,
     value_at, whole_at,

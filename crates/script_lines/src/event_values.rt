@@ -7,8 +7,8 @@ ghost use Rattle.spec_records.specs.RecordDocument as document;
 ghost use Rattle.script_lines.specs.EventMembers.{member_name};
 ghost use Rattle.script_lines.specs.EventReading.{Gives};
 
-use crate::event_member::EventMember;
 use crate::event_fault::{EventRead, of_member};
+use crate::event_member::EventMember;
 use context_records::OneKey;
 use context_records::keys::read_key_pair;
 use context_records::words::{
