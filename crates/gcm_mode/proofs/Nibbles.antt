@@ -1,36 +1,27 @@
 -- Products four bits at a time.
-use Rattle.std.proofs.Common.{◌≡◌, ◌<◌, ℕ, zero, suc, refl, arith, ◌*◌, ◌%◌, ◌/◌, ◌+◌, ◌-◌, ◌^◌, bit_xor, get_or, ap, sym, ◌∙◌, pow_pos, subst, add-zero, mod-lt, mul_assoc, add-mul, zero-mul, length}
+use Rattle.std.proofs.Common.{◌≡◌, ◌<◌, ℕ, zero, suc, refl, arith, ◌*◌, ◌%◌, ◌/◌, ◌+◌, ◌-◌, ◌^◌, bit_xor, get_or, ap, sym, ◌∙◌, add-zero, zero-mul, length}
 use Rattle.std.specs.Int.{bit_at}
 use Rattle.std.specs.Prelude.{List}
 use Rattle.std.proofs.lemmas.List.FromFn.{fill_by_all, get_or-map-range_with_len}
-use Rattle.std.proofs.lemmas.Nat.{mod-pow-add, pow-add, shl_below, xor_comm}
 use Rattle.std.proofs.lemmas.Nat.Bits.{bit_at-zero, bit_at_cat_low}
 use lib.Bits.{xor_shifted, xor_zero_r}
 use Rattle.spec_documents.proofs.Below.{all_below, same_below}
 use Rattle.gcm_mode.specs.declared.field.TheConstants.{REDUCTIONS}
-use Rattle.spec_sealing.specs.GcmField.{product, one, product_below, times_power, times_u}
+use Rattle.spec_sealing.specs.GcmField.{product, one, product_below, times_power}
 use Rattle.gcm_mode.specs.Table.{nibble_products}
-use Rattle.gcm_mode.proofs.Products.{product-one, product-xor_left, product_below-times_power, product_comm, times_power-lt, times_power-xor, times_u-double}
+use Rattle.gcm_mode.proofs.Products.{product-one, product_comm, times_power-xor}
+use Rattle.gcm_mode.proofs.Parts.{times_power-shifted, part_step}
 
 -- ---- u^4
 
-times_power_4-shifted : (q : ℕ) → times_power 4 (q * 2 ^ 4) ≡ q
-unfolding times_power
-times_power_4-shifted q =
-    let e : q * 2 ^ 4 ≡ q * 2 * 2 * 2 * 2 = omega arith in
-    ap (times_power 4) e
-    ∙ ap (λ (y : ℕ). times_u (times_u (times_u y))) (times_u-double (q * 2 * 2 * 2))
-    ∙ ap (λ (y : ℕ). times_u (times_u y)) (times_u-double (q * 2 * 2))
-    ∙ ap times_u (times_u-double (q * 2)) ∙ times_u-double q
-
-reductions-at : (r : ℕ) → r < 16 → get_or REDUCTIONS r 0 * 2 ^ 112 ≡ times_power 4 r
+pub nibble-at : (r : ℕ) → r < 16 → get_or REDUCTIONS r 0 * 2 ^ 112 ≡ times_power 4 r
 unfolding all_below times_power
-reductions-at = same_below 16 (λ k. get_or REDUCTIONS k 0 * 2 ^ 112) (times_power 4) refl
+nibble-at = same_below 16 (λ k. get_or REDUCTIONS k 0 * 2 ^ 112) (times_power 4) refl
 
 pub times_power_4-split : (y : ℕ) → bit_xor (y / 2 ^ 4) (get_or REDUCTIONS (y % 2 ^ 4) 0 * 2 ^ 112) ≡ times_power 4 y
 times_power_4-split y =
     let whole : bit_xor (y / 2 ^ 4 * 2 ^ 4) (y % 2 ^ 4) ≡ y = xor_shifted (y / 2 ^ 4) 4 (y % 2 ^ 4) (omega arith) ∙ omega arith in
-    (λ t. bit_xor (sym (times_power_4-shifted (y / 2 ^ 4)) t) (reductions-at (y % 2 ^ 4) (omega arith) t))
+    (λ t. bit_xor (sym (times_power-shifted 4 (y / 2 ^ 4)) t) (nibble-at (y % 2 ^ 4) (omega arith) t))
     ∙ sym (times_power-xor 4 (y / 2 ^ 4 * 2 ^ 4) (y % 2 ^ 4)) ∙ ap (times_power 4) whole
 
 -- ---- one nibble
@@ -54,43 +45,15 @@ product-nibble i h = product_below-nibble 124 i h
 
 -- ---- all nibbles
 
-product-times_power : (i y h : ℕ) → y < 2 ^ 128 → h < 2 ^ 128 → product (times_power i y) h ≡ times_power i (product y h)
-unfolding product
-product-times_power i y h fy fh =
-    product_comm (times_power i y) h (times_power-lt i y fy) fh ∙ product_below-times_power 128 h i y
-    ∙ ap (times_power i) (product_comm h y fh fy)
-
 -- the next four bits of x, above those before
 pub nibble_step : (x m h s : ℕ) → m < 32 → h < 2 ^ 128
     → s ≡ product (x % 2 ^ (4 * m) * 2 ^ (128 - 4 * m)) h
     → bit_xor (times_power 4 s) (product (x / 2 ^ (4 * m) % 2 ^ 4 * 2 ^ 124) h)
     ≡ product (x % 2 ^ (4 * (m + 1)) * 2 ^ (128 - 4 * (m + 1))) h
 nibble_step x m h s within fits held =
-    let k : ℕ = 4 * m in
-    let r : ℕ = x % 2 ^ k in
-    let n : ℕ = x / 2 ^ k % 2 ^ 4 in
-    let p : ℕ = 2 ^ (124 - k) in
-    let turn : 4 * (m + 1) ≡ 4 + k = omega arith in
-    let left : 128 - 4 * (m + 1) ≡ 124 - k = omega arith in
-    let z : ℕ = r * p in
-    let sum : k + (124 - k) ≡ 124 = omega arith in
-    let four : 128 - k ≡ 124 - k + 4 = omega arith in
-    let whole : 2 ^ k * p ≡ 2 ^ 124 = sym (pow-add 2 k (124 - k)) ∙ ap (λ (i : ℕ). 2 ^ i) sum in
-    let small : z < 2 ^ 124 =
-    subst (λ (i : ℕ). z < 2 ^ i) sum (shl_below r k (124 - k) (mod-lt x (pow_pos k))) in
-    let before : r * 2 ^ (128 - k) ≡ z * 2 ^ 4 =
-    ap (λ (i : ℕ). r * 2 ^ i) four ∙ ap (λ (i : ℕ). r * i) (pow-add 2 (124 - k) 4) ∙ sym (mul_assoc r p (2 ^ 4)) in
-    let after : x % 2 ^ (4 * (m + 1)) * 2 ^ (128 - 4 * (m + 1)) ≡ n * 2 ^ 124 + z =
-    (λ t. x % 2 ^ (turn t) * 2 ^ (left t))
-    ∙ ap (λ (i : ℕ). i * p) (mod-pow-add x 4 k) ∙ add-mul (n * 2 ^ k) r p
-    ∙ ap (λ (i : ℕ). i + z) (mul_assoc n (2 ^ k) p ∙ ap (λ (i : ℕ). n * i) whole) in
-    let high : times_power 4 s ≡ product z h =
-    ap (times_power 4) (held ∙ ap (λ (y : ℕ). product y h) before)
-    ∙ sym (product-times_power 4 (z * 2 ^ 4) h (omega arith) fits)
-    ∙ ap (λ (y : ℕ). product y h) (times_power_4-shifted z) in
-    ap (λ (y : ℕ). bit_xor y (product (n * 2 ^ 124) h)) high
-    ∙ sym (product-xor_left z (n * 2 ^ 124) h)
-    ∙ ap (λ (y : ℕ). product y h) (xor_comm z (n * 2 ^ 124) ∙ xor_shifted n 124 z small ∙ sym after)
+    let next : 4 + 4 * m ≡ 4 * (m + 1) = omega arith in
+    part_step 4 124 (4 * m) (128 - 4 * (m + 1)) x h s (omega arith) (omega arith) fits held
+    ∙ ap (λ (i : ℕ). product (x % 2 ^ i * 2 ^ (128 - 4 * (m + 1))) h) next
 
 product_below-zero_left : (n y : ℕ) → product_below n 0 y ≡ 0
 unfolding product_below

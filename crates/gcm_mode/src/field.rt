@@ -1,6 +1,6 @@
 //! Blocks as polynomials over the field of two elements. The greatest bit is the coefficient of u^0.
 
-ghost use Rattle.std.specs.Prelude.{◌≡◌, ℕ, ◌≤◌, slice_index};
+ghost use Rattle.std.specs.Prelude.{◌≡◌, ℕ, ◌*◌, ◌^◌, ◌<◌, ◌≤◌, List, slice_index};
 ghost use Rattle.spec_sealing.specs.GcmField.{product, product_below, times_power, times_u};
 ghost use Rattle.gcm_mode.specs.Table.{nibble_products};
 
@@ -42,10 +42,20 @@ fn product_below(count: u32, x: u128, y: u128) -> u128
 }
 
 #[inline(always)]
-fn times_u4(y: u128) -> u128
+pub(crate) fn times_u4(y: u128) -> u128
     ensures { result ≡ times_power 4 y }
 {
     (y >> 4) ^ ((REDUCTIONS[(y & 15) as usize] as u128) << 112)
+}
+
+// A block by which blocks are multiplied. Contracts name it as `block`.
+pub(crate) trait Factor {
+    // the block
+    ghost block: { Self → ℕ };
+
+    // The product of the block `x` and this one.
+    fn times(&self, x: u128) -> u128
+        ensures { result ≡ product x (block self.now) };
 }
 
 /// A block H with its products by the polynomials of a degree of at most 3, by which other blocks are
@@ -76,6 +86,15 @@ impl GhashTable {
         GhashTable { entries }
     }
 
+    // The product of H and the polynomial that has the four bits of `i` as its coefficients.
+    #[inline(always)]
+    pub(crate) fn of_degree_3(&self, i: usize) -> u128
+        requires { i < 16 }
+        ensures { result ≡ product (i * 2 ^ 124) self.now }
+    {
+        self.entries[i]
+    }
+
     /// The product of the block `x` and H, taken four bits of `x` at a time.
     pub fn times(&self, x: u128) -> u128
         ensures { result ≡ product x self.now }
@@ -87,5 +106,13 @@ impl GhashTable {
             rest >>= 4;
         }
         sum
+    }
+}
+
+impl Factor for GhashTable {
+    ghost block = { λ t. t };
+
+    fn times(&self, x: u128) -> u128 {
+        GhashTable::times(self, x)
     }
 }

@@ -6,7 +6,7 @@ ghost use Rattle.std.specs.List.{range_with_len};
 ghost use Rattle.spec_sealing.specs.GcmField.{ghash};
 ghost use Rattle.spec_sealing.specs.Gcm.{block_at, blocks};
 
-use crate::field::GhashTable;
+use crate::field::Factor;
 
 // Byte `i` of `first` followed by `second`, and zeros after these.
 fn byte_at(first: &[u8], second: &[u8], i: usize) -> u8
@@ -59,9 +59,10 @@ fn block_at(first: &[u8], second: &[u8], i: usize) -> u128
 }
 
 // Goes on with the GHASH `sum` over the blocks of `first` followed by `second`.
-pub(crate) fn absorb(table: &GhashTable, sum: u128, first: &[u8], second: &[u8]) -> u128
-    requires { table.now < 2 ^ 128 }
-    ensures { (xs : List ℕ) → sum ≡ ghash table.now xs → result ≡ ghash table.now (xs ++ blocks (first.now ++ second.now)) }
+pub(crate) fn absorb<T: Factor>(table: &T, sum: u128, first: &[u8], second: &[u8]) -> u128
+    requires { T.block table.now < 2 ^ 128 }
+    ensures { (xs : List ℕ) → sum ≡ ghash (T.block table.now) xs →
+        result ≡ ghash (T.block table.now) (xs ++ blocks (first.now ++ second.now)) }
 {
     let count = (first.len() + second.len()).div_ceil(16);
     let mut total = sum;

@@ -59,7 +59,7 @@ filled_stands j n c vs k h o =
 
 -- ---- where the fill is there
 
-fill_parts_of : (c : Message) (vs : List Tree) (x : Message) → filled vs c ≡ Some x → (has_texts vs c ≡ true) × (fill_whole vs c ≡ x)
+pub fill_parts_of : (c : Message) (vs : List Tree) (x : Message) → filled vs c ≡ Some x → (has_texts vs c ≡ true) × (fill_whole vs c ≡ x)
 fill_parts_of c vs x e =
     let g = guard (has_texts vs c && nat_le (body_depth (fill_whole vs c).body) 64) (fill_whole vs c) x e in
     ((and_parts (has_texts vs c) _ g.0).0, g.1)

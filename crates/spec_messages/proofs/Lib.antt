@@ -53,3 +53,5 @@ pub mod FilledTexts
 pub mod FilledLine
 pub mod FilledParts
 pub mod FilledStands
+pub mod OnePlaces
+pub mod OutcomeLemmas

@@ -24,3 +24,7 @@ pub mod Printing
 pub mod Plain
 pub mod Rebuilt
 pub mod StandRows
+pub mod Steps
+pub mod Compared
+pub mod Sendable
+pub mod Outcome

@@ -1,9 +1,15 @@
 -- Worked examples: the texts, documents and policies that the laws by computation name.
-use Rattle.std.specs.Prelude.{ℕ, List, [], ◌∷◌, true, Some, None, codes}
-use Rattle.spec_documents.specs.Tree.{Tree, words, members, put_member}
+use Rattle.std.specs.Prelude.{ℕ, zero, suc, List, [], ◌∷◌, true, Some, None, Result, codes}
+use Rattle.spec_documents.specs.Tree.{Tree, null, words, members, put_member}
+use Rattle.spec_documents.specs.Place.{Pointer}
+use Rattle.spec_documents.specs.Patch.{Op}
+use Rattle.spec_documents.specs.Text.{index_text}
 use Rattle.spec_documents.specs.Examples.{list, map_of}
 use Rattle.spec_messages.specs.Message.{clear, Line, request, Message}
 use Rattle.spec_messages.specs.Policy.{Policy, fixed, Element, Location, body, Sort, ueid, authentication_material, key_material, nonsensitive}
+use Rattle.spec_messages.specs.Split.{cleared}
+use Rattle.spec_messages.specs.Entry.{OpWhy}
+use Rattle.spec_messages.specs.Outcome.{operation_outcome, entry_outcome}
 use Rattle.spec_messages.specs.Block.{Meta, sent_block, members_of}
 
 abbrev pub message_three : Message
@@ -68,3 +74,19 @@ plain_three = record {
 
 abbrev pub three_values : List Tree
 three_values = words (codes "0102") ∷ words (codes "0304") ∷ words (codes "suci-0-001-01-0-0-0-0000000001") ∷ []
+
+-- the value of item k of a block's payload
+abbrev pub value_path : ℕ → Pointer
+value_path k = codes "payload" ∷ index_text k ∷ codes "value" ∷ []
+
+-- what an intermediary's operation, and an entry, makes of the block of the message
+abbrev pub outcome_three : List ℕ → Op → Result (Tree × Message) OpWhy
+outcome_three ipx op = operation_outcome policy_one (Some 0) ipx 3 block_three (cleared policy_one (Some 0) message_three) op
+
+abbrev pub entry_three : List ℕ → List Op → Result (Tree × Message) (ℕ × OpWhy)
+entry_three ipx ops = entry_outcome policy_one (Some 0) ipx 3 block_three (cleared policy_one (Some 0) message_three) ops
+
+-- n lists, one in the other
+abbrev pub nested : ℕ → Tree
+nested zero = null
+nested (suc n) = list (nested n ∷ [])

@@ -85,3 +85,30 @@ pub fn clear_rows()
     ensures clear { clear_message block_three ≡ Some (cleared policy_one (Some 0) message_three) }
     ensures full { filled three_values (cleared policy_one (Some 0) message_three) ≡ Some message_three }
 {}
+
+ghost use Rattle.spec_messages.specs.Entry.{OpWhy, hole_value, into_hole, patch, hole_taken, metadata, not_block, hole_moved, not_modifiable};
+ghost use Rattle.spec_messages.specs.Rows.{value_path, outcome_three, entry_three, nested};
+
+/// Each reason against an operation, by an operation that the next reason forbids as well.
+pub fn reason_rows()
+    ensures value { outcome_three (codes "ipx-a") (replace (codes "payload" ∷ codes "0" ∷ codes "value" ∷ codes "x" ∷ []) (hole 0)) ≡ Err hole_value }
+    ensures into { outcome_three (codes "ipx-a") (remove (codes "payload" ∷ codes "0" ∷ codes "value" ∷ codes "x" ∷ [])) ≡ Err into_hole }
+    ensures place { outcome_three (codes "ipx-a") (move (value_path 0) (codes "a" ∷ codes "b" ∷ [])) ≡ Err (patch no_place) }
+    ensures index { outcome_three (codes "ipx-a") (remove (codes "payload" ∷ codes "01" ∷ [])) ≡ Err (patch bad_index) }
+    ensures tested { outcome_three (codes "ipx-a") (test (value_path 0) (number 5)) ≡ Err (patch test_failed) }
+    ensures itself { outcome_three (codes "ipx-a") (move (codes "payload" ∷ []) (codes "payload" ∷ codes "0" ∷ [])) ≡ Err (patch into_itself) }
+    ensures deep { outcome_three (codes "ipx-a") (replace (codes "payload" ∷ []) (nested 127)) ≡ Err (patch too_deep) }
+    ensures taken { outcome_three (codes "ipx-a") (replace [] (number 5)) ≡ Err hole_taken }
+    ensures meta { outcome_three (codes "ipx-a") (remove (codes "metaData" ∷ [])) ≡ Err metadata }
+    ensures block { outcome_three (codes "ipx-a") (add (codes "payload" ∷ codes "0" ∷ []) (number 5)) ≡ Err not_block }
+    ensures moved { outcome_three (codes "ipx-a") (add (codes "payload" ∷ codes "0" ∷ []) (item_at (codes "/a") (number 5))) ≡ Err hole_moved }
+    ensures fixed { outcome_three (codes "ipx-b") (replace (value_path 2) (number 5)) ≡ Err (not_modifiable (body_at (codes "servingNetworkName" ∷ []))) }
+    ensures allowed { IsOk (outcome_three (codes "ipx-a") (replace (value_path 2) (number 5))) }
+{}
+
+/// The first operation of an entry that isn't allowed is told by its number, from 1, and the later ones are not looked at.
+pub fn entry_rows()
+    ensures none { entry_three (codes "ipx-a") [] ≡ Ok (block_three, cleared policy_one (Some 0) message_three) }
+    ensures second { entry_three (codes "ipx-a") (replace (value_path 2) (number 5) ∷ test (value_path 2) (number 6) ∷ remove (codes "metaData" ∷ []) ∷ []) ≡ Err (2, patch test_failed) }
+    ensures back { entry_three (codes "ipx-a") (replace (value_path 2) (number 5) ∷ replace (value_path 2) (words (codes "5G:mnc001.mcc001.3gppnetwork.org")) ∷ []) ≡ Ok (block_three, cleared policy_one (Some 0) message_three) }
+{}

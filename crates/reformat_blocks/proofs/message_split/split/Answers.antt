@@ -55,7 +55,7 @@ faultless c =
     let hidden : c.len-2.result ≡ length (values pol k m) = c.len-2.ensures ∙ ap length c.in_ok-sent.ensures.values in
     let holes : c.len-3.result ≡ length (values pol k m) = c.len-3.ensures ∙ ap length c.in_ok-sent.ensures.values in
     let limits = in_all pol k m meta (omega (arith, count, c.len.ensures, c.if-len-gt256.false)) (omega (arith, c.in_ok-sent.ensures.items, c.if-sent-gt4096.false)) (omega (arith, hidden, c.if-len-gt1024.false)) in
-    let block = c.sent_block_is_block.ensures pol k m meta c.requires.whole c.body_is_ordered.ensures c.requires.shallow c.requires.meta limits in
+    let block = c.sent_block_is_block.ensures pol k m meta (record { whole = c.requires.whole; ordered = c.body_is_ordered.ensures; shallow = c.requires.shallow; metadata = c.requires.meta; limits = limits }) in
     ap₂ block_fault (c.from_shallow.ensures ∙ c.in_ok-sent.ensures.block) holes ∙ c.fault_decides.ensures.none (sent_block pol k m meta) (length (values pol k m)) (cleared pol k m) block
 
 pub of_doc-requires : goal.of_doc-requires

@@ -12,7 +12,13 @@ returns c x key seq m node records sendable names fits are ready =
     let j = block_under x seq m in
     let vs = values_under x m in
     let holed = cleared x.policy k m in
-    let block = c.sent_block_is_block.ensures x.policy k m meta sendable.whole sendable.ordered sendable.shallow (is_meta-for x seq names fits) (split-limits (sent_block_of x k seq m) (length vs) sendable.limits) in
+    let block = c.sent_block_is_block.ensures x.policy k m meta (record {
+      whole = sendable.whole;
+      ordered = sendable.ordered;
+      shallow = sendable.shallow;
+      metadata = is_meta-for x seq names fits;
+      limits = split-limits (sent_block_of x k seq m) (length vs) sendable.limits;
+    }) in
     untouched x key seq m node records
     (record {
       fault = c.fault_decides.ensures.none j (length vs) holed block;
