@@ -1,65 +1,19 @@
 ghost use Rattle.std.specs.Prelude.{◌≡◌, ◌≤◌, IfOk, IsTrue};
 ghost use Rattle.spec_documents.specs.Compact.{compact_text};
 ghost use Rattle.spec_messages.specs.Message.{is_whole, body_depth};
-ghost use Rattle.n32_values.specs.View.{tree_of};
 ghost use Rattle.http_message.specs.Reading.{message_view};
 ghost use Rattle.block_forms.specs.Metadata.{meta_view};
-ghost use Rattle.spec_script.specs.LineTree.{line_tree};
-ghost use Rattle.spec_script.specs.Messages.{message_in};
 ghost use Rattle.blocks_word.specs.BlockAnswers.{plain_parts, line_parts, parts_tree, no_meta, block_answer};
 ghost use Rattle.spec_documents.specs.Gives.{Gives};
-ghost use Rattle.blocks_word.specs.Views.{told_refusal};
+ghost use Rattle.script_lines.specs.Unanswered.{told_refusal};
 
 use doc_forms::put;
-use http_message::{Message, MessageRead, read_message};
-use n32_values::{Bytes, Doc, DocFault, NoMemory, Node, NodeMap, Text, Whole, doc_text, read_doc};
+use http_message::Message;
+use n32_values::{Bytes, NoMemory, Node, NodeMap, Text, Whole, doc_text};
 use policy_tables::Policy;
 use reformat_blocks::{Meta, Split, SplitFault, split};
-use script_answers::{Refusal, refusal_text};
+use script_lines::{Refusal, Unanswered, read_line, read_line_message, refusal_text};
 use std::alloc::Global;
-
-// Why a line has no block.
-#[derive(Drop)]
-enum Unanswered {
-    // It is refused.
-    Refused(Refusal),
-    // No memory was left.
-    NoMemory,
-}
-
-impl From<NoMemory> for Unanswered {
-    ghost use Rattle.blocks_word.specs.Views.{IsMemory};
-
-    ghost from_gives = { λ _ why. IsMemory why };
-
-    fn from(_refused: NoMemory) -> Unanswered {
-        Unanswered::NoMemory
-    }
-}
-
-fn read_line(alloc: Global, line: &[u8]) -> Result<Doc, Unanswered>
-    ensures { Gives told_refusal (λ d. d) result (line_tree line.now) }
-{
-    match read_doc(alloc, line) {
-        Ok(doc) => Ok(doc),
-        Err(DocFault::Syntax) => Err(Unanswered::Refused(Refusal::Syntax)),
-        Err(DocFault::Number) => Err(Unanswered::Refused(Refusal::Number)),
-        Err(DocFault::NoMemory) => Err(Unanswered::NoMemory),
-    }
-}
-
-fn read_line_message(alloc: Global, node: &Node) -> Result<Message, Unanswered>
-    ensures gives { Gives told_refusal message_view result (message_in (tree_of node.now)) }
-    ensures whole { IfOk result (λ m. IsTrue (is_whole (message_view m))) }
-    ensures shallow { IfOk result (λ m. body_depth (message_view m).body ≤ 64) }
-{
-    match read_message(alloc, node) {
-        Ok(message) => Ok(message),
-        Err(MessageRead::Member(member)) => Err(Unanswered::Refused(Refusal::Message(member))),
-        Err(MessageRead::Depth) => Err(Unanswered::Refused(Refusal::Depth)),
-        Err(MessageRead::NoMemory) => Err(Unanswered::NoMemory),
-    }
-}
 
 // The metadata of no context, no message and no intermediary.
 fn no_metadata(alloc: Global) -> Result<Meta, NoMemory>

@@ -22,17 +22,17 @@ use Rattle.receiving_sepp.specs.Views.{refused_view}
 use Rattle.receiving_sepp.specs.declared.delivery.Delivered.{Delivered}
 use Rattle.receiving_sepp.specs.declared.faults.AcceptFault.{AcceptFault}
 use Rattle.receiving_sepp.specs.declared.faults.AcceptFault.TheVariants as accepting
-use Rattle.script_answers.specs.Texts as texts
-use Rattle.script_answers.specs.View.{refusal_view}
-use Rattle.script_answers.specs.declared.refusal.Refusal.{Refusal}
-use Rattle.script_answers.specs.declared.refusal.Refusal.TheVariants as refusals
+use Rattle.script_lines.specs.AnswerTexts as texts
+use Rattle.script_lines.specs.View.{refusal_view}
+use Rattle.script_lines.specs.declared.refusal.Refusal.{Refusal}
+use Rattle.script_lines.specs.declared.refusal.Refusal.TheVariants as refusals
 use Rattle.context_store.specs.Changes.{CallBy}
 use Rattle.replay_world.specs.Refusing.{of_sending, of_receiving}
 use Rattle.replay_world.specs.Worlds.{sites_view, state_of}
 use Rattle.replay_world.specs.Stepping.{Makes, HasPut, GivesUp, Tells, Comes, StoreStays, Idles}
 use Rattle.replay_world.specs.declared.world.World.{World}
-use Rattle.replay_world.specs.declared.unanswered.Unanswered.{Unanswered}
-use Rattle.replay_world.specs.declared.unanswered.Unanswered.TheVariants as unanswered
+use Rattle.script_lines.specs.declared.unanswered.Unanswered.{Unanswered}
+use Rattle.script_lines.specs.declared.unanswered.Unanswered.TheVariants as unanswered
 use Rattle.replay_world.proofs.Parts.{by_call, gives_up_idly}
 
 -- ---- delivering

@@ -1,4 +1,3 @@
-pub mod Read
 pub mod Fits
 pub mod Parts
 pub mod EventSteps

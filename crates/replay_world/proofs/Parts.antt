@@ -7,15 +7,15 @@ use Rattle.context_store.specs.Changes.{Change, CallBy}
 use Rattle.spec_exchange.specs.Outside.{Choice, Cause, no_fault, Read, ReadFails, Putting, Lost, Outcome}
 use Rattle.spec_script.specs.Refusals as script
 use Rattle.spec_script.specs.Steps.{State, Answer, Step, refuses, with_sent}
-use Rattle.script_answers.specs.View.{refusal_view}
-use Rattle.script_answers.specs.declared.refusal.Refusal.{Refusal}
+use Rattle.script_lines.specs.View.{refusal_view}
+use Rattle.script_lines.specs.declared.refusal.Refusal.{Refusal}
 use Rattle.spec_documents.specs.Gives as gives
-use Rattle.replay_world.specs.Refusing.{told_refusal}
+use Rattle.script_lines.specs.Unanswered.{told_refusal}
 use Rattle.replay_world.specs.Worlds.{sites_view, state_of}
 use Rattle.replay_world.specs.Stepping.{IsChosen, StepBy, Makes, HasPut, GivesUp, Tells, Comes, StoreStays, Idles, ComesIdly}
 use Rattle.replay_world.specs.declared.world.World.{World}
-use Rattle.replay_world.specs.declared.unanswered.Unanswered.{Unanswered}
-use Rattle.replay_world.specs.declared.unanswered.Unanswered.TheVariants as unanswered
+use Rattle.script_lines.specs.declared.unanswered.Unanswered.{Unanswered}
+use Rattle.script_lines.specs.declared.unanswered.Unanswered.TheVariants as unanswered
 
 -- ---- choices
 

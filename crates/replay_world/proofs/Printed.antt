@@ -7,13 +7,13 @@ use Rattle.spec_script.specs.Refusals as script
 use Rattle.spec_script.specs.Steps.{State, Answer, Step, Fine, OnWire, Sends, Delivers, Refuses, after, line_step}
 use Rattle.spec_script.specs.Answers.{answer_text}
 use Rattle.spec_script.specs.Output.{has_refusal, is_keeper_refusal}
-use Rattle.script_answers.specs.View.{refusal_view}
-use Rattle.script_answers.specs.declared.refusal.Refusal.{Refusal}
-use Rattle.script_answers.specs.declared.refusal.Refusal.TheVariants as refusals
+use Rattle.script_lines.specs.View.{refusal_view}
+use Rattle.script_lines.specs.declared.refusal.Refusal.{Refusal}
+use Rattle.script_lines.specs.declared.refusal.Refusal.TheVariants as refusals
 use Rattle.replay_world.specs.Worlds.{state_of}
 use Rattle.replay_world.specs.Stepping.{StepBy, Makes, GivesUp, Tells, Comes, TellsText, LineComes, is_refusal}
 use Rattle.replay_world.specs.declared.world.World.{World}
-use Rattle.replay_world.specs.declared.unanswered.Unanswered.TheVariants as unanswered
+use Rattle.script_lines.specs.declared.unanswered.Unanswered.TheVariants as unanswered
 
 -- an answer that is no refusal is none of the keeper's
 no_refusal : (a : Answer) → is_refusal a ≡ false → has_refusal is_keeper_refusal a ≡ false

@@ -13,17 +13,17 @@ use Rattle.spec_exchange.specs.Outside.{Choice, Journal, Keeper, Read, ReadFails
 use Rattle.spec_script.specs.Refusals.{Refusal, OfOutside}
 use Rattle.spec_script.specs.Steps.{State, Step, Fine, refuses, or_refuses, has_read, puts}
 use Rattle.spec_script.specs.Answers.{answer_text}
-use Rattle.script_answers.specs.View.{refusal_view}
+use Rattle.script_lines.specs.View.{refusal_view}
 use Rattle.block_forms.specs.declared.fault.LimitName.TheVariants as limits
-use Rattle.script_answers.specs.declared.refusal.Refusal as declared
-use Rattle.script_answers.specs.declared.refusal.Refusal.TheVariants as refusals
+use Rattle.script_lines.specs.declared.refusal.Refusal as declared
+use Rattle.script_lines.specs.declared.refusal.Refusal.TheVariants as refusals
 use Rattle.replay_world.specs.Refusing.{of_opening, of_adding}
 use Rattle.replay_world.specs.Worlds.{sites_view, state_of}
 use Rattle.replay_world.specs.Stepping.{StepBy, Makes, Tells, Comes}
 use Rattle.replay_world.specs.Handing.{puts_record}
 use Rattle.replay_world.specs.declared.world.World.{World}
-use Rattle.replay_world.specs.declared.unanswered.Unanswered.{Unanswered}
-use Rattle.replay_world.specs.declared.unanswered.Unanswered.TheVariants as unanswered
+use Rattle.script_lines.specs.declared.unanswered.Unanswered.{Unanswered}
+use Rattle.script_lines.specs.declared.unanswered.Unanswered.TheVariants as unanswered
 use Rattle.replay_world.proofs.Parts.{chosen_fresh, gives_up_idly}
 use Rattle.replay_world.proofs.EventSteps.{has_room, no_room}
 

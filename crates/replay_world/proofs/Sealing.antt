@@ -21,11 +21,11 @@ use Rattle.spec_script.specs.Refusals.{Refusal, BadEvent, NotBuilt}
 use Rattle.spec_script.specs.Messages.{message_in}
 use Rattle.spec_script.specs.Steps.{is_response, request_to_send}
 use Rattle.sending_sepp.specs.Outcome as sent
-use Rattle.script_answers.specs.View.{refusal_view}
-use Rattle.replay_world.specs.declared.unanswered.Unanswered.{Unanswered}
-use Rattle.replay_world.specs.declared.unanswered.Unanswered.TheVariants as unanswered
+use Rattle.script_lines.specs.View.{refusal_view}
+use Rattle.script_lines.specs.declared.unanswered.Unanswered.{Unanswered}
+use Rattle.script_lines.specs.declared.unanswered.Unanswered.TheVariants as unanswered
 use Rattle.spec_documents.specs.Gives.{Tells}
-use Rattle.replay_world.specs.Refusing.{told_refusal}
+use Rattle.script_lines.specs.Unanswered.{told_refusal}
 use Rattle.replay_world.specs.Worlds.{IsShallow}
 
 -- ---- requests

@@ -1,5 +1,4 @@
--- What the program answers in place of a text, in the words of the definitions.
-use Rattle.std.specs.Prelude.{◌≡◌, Option, Some, None, Result, Err}
+-- Faults of the store and of the calls of a SEPP, as they are told of an event.
 use Rattle.block_forms.specs.declared.fault.LimitName.TheVariants as limits
 use Rattle.context_store.specs.declared.faults.AddFault.{AddFault}
 use Rattle.context_store.specs.declared.faults.AddFault.TheVariants as adding
@@ -9,25 +8,9 @@ use Rattle.sending_sepp.specs.declared.fault.ProtectFault.{ProtectFault}
 use Rattle.sending_sepp.specs.declared.fault.ProtectFault.TheVariants as sending
 use Rattle.receiving_sepp.specs.declared.faults.AcceptFault.{AcceptFault}
 use Rattle.receiving_sepp.specs.declared.faults.AcceptFault.TheVariants as receiving
-use Rattle.spec_script.specs.Refusals as spec
-use Rattle.script_answers.specs.declared.refusal.Refusal.TheVariants as refusals
-use Rattle.script_answers.specs.View.{refusal_view}
-use Rattle.replay_world.specs.declared.unanswered.Unanswered.{Unanswered}
-use Rattle.replay_world.specs.declared.unanswered.Unanswered.TheVariants as unanswered
-
--- the refusal that is told, where memory sufficed
-abbrev pub told_refusal : Unanswered → Option spec.Refusal
-told_refusal (unanswered.Refused refusal) = Some (refusal_view refusal)
-told_refusal unanswered.NoMemory = None
-
-abbrev pub IsMemory : Unanswered → Type 0
-IsMemory why = why ≡ unanswered.NoMemory
-
--- it is not told that the keeper failed
-abbrev pub SparesKeeper : {A : Type 0} → Result A Unanswered → Type 0
-SparesKeeper r = r ≡ Err (unanswered.Refused refusals.Keeper) → ⊥
-
--- ---- what stops a call
+use Rattle.script_lines.specs.declared.refusal.Refusal.TheVariants as refusals
+use Rattle.script_lines.specs.declared.unanswered.Unanswered.{Unanswered}
+use Rattle.script_lines.specs.declared.unanswered.Unanswered.TheVariants as unanswered
 
 abbrev pub of_opening : OpenFault → Unanswered
 of_opening (opening.Journal number) = unanswered.Refused (refusals.Journal number)

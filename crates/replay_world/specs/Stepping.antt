@@ -11,11 +11,11 @@ use Rattle.spec_script.specs.Steps.{State, Answer, Step, Refuses, with_sent, lin
 use Rattle.spec_script.specs.Answers.{answer_text}
 use Rattle.spec_script.specs.Output.{has_refusal, is_keeper_refusal}
 use Rattle.n32_outside.specs.Causes.{Rose}
-use Rattle.script_answers.specs.View.{refusal_view}
+use Rattle.script_lines.specs.View.{refusal_view}
 use Rattle.replay_world.specs.Worlds.{sites_view, state_of}
 use Rattle.replay_world.specs.declared.world.World.{World}
-use Rattle.replay_world.specs.declared.unanswered.Unanswered.{Unanswered}
-use Rattle.replay_world.specs.declared.unanswered.Unanswered.TheVariants as unanswered
+use Rattle.script_lines.specs.declared.unanswered.Unanswered.{Unanswered}
+use Rattle.script_lines.specs.declared.unanswered.Unanswered.TheVariants as unanswered
 
 -- ---- over what a step is
 

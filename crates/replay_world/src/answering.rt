@@ -1,10 +1,9 @@
 // The answer to a line.
 ghost use Rattle.std.specs.Prelude.{◌≡◌, ◌≤◌, IfOk, IsErrOf};
 ghost use Rattle.n32_outside.specs.Causes.{Rose};
-ghost use Rattle.script_events.specs.View.{event_view};
 ghost use Rattle.spec_script.specs.Answers.{answer_text};
 ghost use Rattle.spec_script.specs.Steps as spec;
-ghost use Rattle.script_answers.specs.View.{refusal_view};
+ghost use Rattle.script_lines.specs.View.{event_view, refusal_view};
 ghost use Rattle.replay_world.specs.Worlds.{IsReady, Steps};
 ghost use Rattle.replay_world.specs.Stepping.{Comes, LineComes};
 ghost use Rattle.replay_world.specs.Fitting.{IsFit};
@@ -13,12 +12,10 @@ use crate::handing_in::{hand_in_context, hand_in_keys};
 use crate::reading::read_line_event;
 use crate::sites::{add_node, restart};
 use crate::traffic::{deliver, inject, send};
-use crate::unanswered::Unanswered;
 use crate::world::World;
 use n32_outside::Keeper;
 use n32_values::{Bytes, NoMemory};
-use script_answers::{Refusal, refusal_text};
-use script_events::Event;
+use script_lines::{Event, Refusal, Unanswered, refusal_text};
 use spec_script::runs::refusal_changes_nothing;
 use std::alloc::Global;
 

@@ -5,26 +5,25 @@ ghost use Rattle.spec_documents.specs.Text.{is_node_name};
 ghost use Rattle.spec_records.specs.Records as records;
 ghost use Rattle.spec_records.specs.RecordDocument.{is_well_named};
 ghost use Rattle.context_records.specs.View.{context_view, key_set_view, record_view};
-ghost use Rattle.script_events.specs.View.{handed_view};
+ghost use Rattle.script_lines.specs.View.{handed_view};
 ghost use Rattle.spec_script.specs.Events.{AddContext, AddKeys};
 ghost use Rattle.spec_script.specs.Steps as spec;
 ghost use Rattle.spec_documents.specs.Gives.{Gives};
-ghost use Rattle.replay_world.specs.Refusing.{SparesKeeper, told_refusal};
+ghost use Rattle.script_lines.specs.Unanswered.{SparesKeeper, told_refusal};
 ghost use Rattle.replay_world.specs.Worlds.{IsReady};
 ghost use Rattle.replay_world.specs.Stepping.{Comes};
 ghost use Rattle.replay_world.specs.Handing.{context_to_open, keys_may_come, keys_new, opens_new, puts_record};
 ghost use Rattle.replay_world.specs.Fitting.{IsFit};
 
+use crate::faults::{unread, unrecorded};
 use crate::sites::is_known;
-use crate::unanswered::{Unanswered, unread, unrecorded};
 use crate::world::World;
 use context_records::{Context, KeySet, Record};
 use context_store::Store;
 use n32_outside::Keeper;
 use n32_values::{Bytes, Hex64, Text};
 use policy_documents::{PolicyRead, read_policy};
-use script_answers::{Refusal, done_text};
-use script_events::HandedContext;
+use script_lines::{HandedContext, Refusal, Unanswered, done_text};
 use std::alloc::Global;
 
 // The context that is handed in, with the policy that its document is of.

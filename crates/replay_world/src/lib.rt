@@ -2,11 +2,11 @@
 #![tactic(auto)]
 
 mod answering;
+mod faults;
 mod handing_in;
 mod reading;
 mod sites;
 mod traffic;
-mod unanswered;
 mod world;
 
 pub use answering::step;

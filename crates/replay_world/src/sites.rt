@@ -3,13 +3,12 @@ ghost use Rattle.std.specs.Prelude.{◌≡◌, is_some, List, Option, ℕ};
 ghost use Rattle.spec_script.specs.Events.{AddNode, Restart};
 ghost use Rattle.spec_script.specs.Steps as spec;
 ghost use Rattle.replay_world.specs.Worlds.{IsReady, sites_view};
-ghost use Rattle.replay_world.specs.Refusing.{SparesKeeper};
+ghost use Rattle.script_lines.specs.Unanswered.{SparesKeeper};
 ghost use Rattle.replay_world.specs.Stepping.{ComesIdly};
 
-use crate::unanswered::Unanswered;
 use crate::world::{Site, SiteList, World};
 use n32_values::{Bytes, PlmnId, Text};
-use script_answers::{Refusal, done_text};
+use script_lines::{Refusal, Unanswered, done_text};
 use std::alloc::Global;
 
 /// Whether a node has this name.

@@ -6,22 +6,23 @@ ghost use Rattle.n32_outside.specs.Causes.{Rose};
 ghost use Rattle.http_message.specs.Reading.{message_view};
 ghost use Rattle.spec_script.specs.Events.{Deliver, Inject, Send};
 ghost use Rattle.spec_exchange.specs.Calls.{Asks, sends};
-ghost use Rattle.script_answers.specs.Texts.{sealed_answer};
-ghost use Rattle.spec_script.specs.Messages.{message_in};
+ghost use Rattle.script_lines.specs.AnswerTexts.{sealed_answer};
 ghost use Rattle.spec_script.specs.Steps as spec;
 ghost use Rattle.spec_documents.specs.Gives.{Gives};
-ghost use Rattle.replay_world.specs.Refusing.{SparesKeeper, told_refusal};
+ghost use Rattle.script_lines.specs.Unanswered.{SparesKeeper, told_refusal};
 ghost use Rattle.replay_world.specs.Worlds.{IsReady, IsShallow};
 ghost use Rattle.replay_world.specs.Stepping.{Comes, ComesIdly};
 
+use crate::faults::{undelivered, unsent};
 use crate::sites::is_known;
-use crate::unanswered::{Unanswered, undelivered, unsent};
 use crate::world::World;
-use http_message::{Kind, Message, MessageRead, read_message};
+use http_message::{Kind, Message};
 use n32_outside::Keeper;
 use n32_values::{Bytes, Doc, DocList, Hex64, NoMemory, Node, Text, Whole};
 use receiving_sepp::accept;
-use script_answers::{Refusal, delivered_text, sealed_text, wire_text};
+use script_lines::{
+    Refusal, Unanswered, delivered_text, read_line_message, sealed_text, wire_text,
+};
 use sending_sepp::protect;
 use std::alloc::Global;
 
@@ -36,21 +37,6 @@ fn document_at<'a>(wire: &'a DocList, number: &Whole) -> Option<&'a Doc>
     wire.get((value - 1) as usize)
 }
 
-// The message that a document is of.
-fn read_shallow(alloc: Global, document: &Node) -> Result<Message, Unanswered>
-    ensures gives { Gives told_refusal message_view result (message_in (tree_of document.now)) }
-    ensures whole { IfOk result (λ m. IsTrue (is_whole (message_view m))) }
-    ensures shallow { IfOk result (λ m. body_depth (message_view m).body ≤ 64) }
-    ensures spares { SparesKeeper result }
-{
-    match read_message(alloc, document) {
-        Ok(message) => Ok(message),
-        Err(MessageRead::Member(member)) => Err(Unanswered::Refused(Refusal::Message(member))),
-        Err(MessageRead::Depth) => Err(Unanswered::Refused(Refusal::Depth)),
-        Err(MessageRead::NoMemory) => Err(Unanswered::NoMemory),
-    }
-}
-
 // The request to send. No response is sent yet, and no request answers one.
 fn request_to_send(
     alloc: Global,
@@ -63,7 +49,7 @@ fn request_to_send(
     ensures kind { IfOk result (λ m. kind_of (message_view m) ≡ of_request) }
     ensures spares { SparesKeeper result }
 {
-    match read_shallow(alloc, document) {
+    match read_line_message(alloc, document) {
         Ok(message) => match message.kind() {
             Kind::Response => Err(Unanswered::Refused(Refusal::NotBuilt)),
             Kind::Request => match answers {

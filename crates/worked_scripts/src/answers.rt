@@ -1,7 +1,7 @@
 // Texts of answers that the stored run has not.
 use block_forms::LimitName;
 use n32_values::{Bytes, Doc, NoMemory, read_doc};
-use script_answers::{Refusal, refusal_text, sealed_text};
+use script_lines::{Refusal, refusal_text, sealed_text};
 use std::alloc::Global;
 
 fn is_text(found: Result<Bytes, NoMemory>, wanted: &str) -> bool {

@@ -1,7 +1,7 @@
 //! Worked scripts: this program answers the events of a script over records in memory. Its stored run is the example of
-//! `examples/` and, behind that, one line for each thing that a sender or a receiver may answer. What a script can't show
-//! is shown by the tests: runs over objects that fail, over records that were held before and over a file, and worlds that
-//! were made by hand.
+//! `examples/` and, behind that, one line for each thing that a sender or a receiver may answer, and events with a wrong
+//! member. What a script can't show is shown by the tests: runs over objects that fail, over records that were held before
+//! and over a file, and worlds that were made by hand.
 #![tactic(auto)]
 
 ghost use Rattle.std.specs.Prelude.{◌≡◌, ◌≢◌, Some, IfOk};

@@ -1,5 +1,5 @@
 use Rattle.std.proofs.Common.{ap}
-use Rattle.script_events.specs.View.{event_view}
+use Rattle.script_lines.specs.View.{event_view}
 use Rattle.spec_script.specs.Events.{line_event}
 use Rattle.spec_script.specs.Steps as spec
 use Rattle.replay_world.specs.Worlds.{state_of}

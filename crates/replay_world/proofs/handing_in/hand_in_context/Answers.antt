@@ -1,9 +1,9 @@
 use Rattle.std.proofs.Common.{◌≡◌, is_some, true, false, refl, ◌∙◌}
 use Rattle.context_records.specs.View.{context_view}
-use Rattle.script_events.specs.View.{handed_view}
+use Rattle.script_lines.specs.View.{handed_view}
 use Rattle.spec_script.specs.Steps as spec
 use Rattle.spec_script.specs.Events.{AddContext}
-use Rattle.script_answers.specs.declared.refusal.Refusal.TheVariants as refusals
+use Rattle.script_lines.specs.declared.refusal.Refusal.TheVariants as refusals
 use Rattle.replay_world.specs.Worlds.{sites_view, state_of}
 use Rattle.replay_world.specs.Handing.{context_to_open, opens_new}
 use Rattle.replay_world.proofs.Parts.{comes_refused, comes_unfit, comes_read}

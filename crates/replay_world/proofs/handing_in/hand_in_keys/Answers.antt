@@ -2,7 +2,7 @@ use Rattle.std.proofs.Common.{◌≡◌, is_some, true, false, refl, ◌∙◌}
 use Rattle.context_records.specs.View.{key_set_view}
 use Rattle.spec_script.specs.Steps as spec
 use Rattle.spec_script.specs.Events.{AddKeys}
-use Rattle.script_answers.specs.declared.refusal.Refusal.TheVariants as refusals
+use Rattle.script_lines.specs.declared.refusal.Refusal.TheVariants as refusals
 use Rattle.replay_world.specs.Worlds.{sites_view, state_of}
 use Rattle.replay_world.specs.Handing.{keys_new}
 use Rattle.replay_world.proofs.Parts.{comes_refused, comes_read}

@@ -3,10 +3,10 @@ use Rattle.spec_records.specs.Records as records
 use Rattle.context_records.specs.View.{context_view}
 use Rattle.spec_script.specs.Refusals.{ContextUsed}
 use Rattle.spec_script.specs.Steps.{refuses}
-use Rattle.script_answers.specs.declared.refusal.Refusal.TheVariants as refusals
+use Rattle.script_lines.specs.declared.refusal.Refusal.TheVariants as refusals
 use Rattle.replay_world.specs.Worlds.{state_of}
 use Rattle.replay_world.specs.Handing.{opens_new, puts_record}
-use Rattle.replay_world.specs.declared.unanswered.Unanswered.TheVariants as unanswered
+use Rattle.script_lines.specs.declared.unanswered.Unanswered.TheVariants as unanswered
 use Rattle.replay_world.proofs.Parts.{comes_fresh, comes_refused}
 use Rattle.replay_world.proofs.EventSteps.{id_is_used, id_is_new}
 use Rattle.replay_world.proofs.handing_in.open_context.Goals as goal

@@ -1,4 +1,4 @@
-use Rattle.script_events.specs.View.{event_view}
+use Rattle.script_lines.specs.View.{event_view}
 use Rattle.replay_world.proofs.Fits.{event_fits}
 use Rattle.replay_world.proofs.reading.read_line_event.Goals as goal
 

@@ -1,7 +1,7 @@
 use Rattle.std.proofs.Common.{◌≡◌, is_some, true, false, refl}
 use Rattle.spec_script.specs.Steps as spec
 use Rattle.spec_script.specs.Events.{AddNode}
-use Rattle.script_answers.specs.declared.refusal.Refusal.TheVariants as refusals
+use Rattle.script_lines.specs.declared.refusal.Refusal.TheVariants as refusals
 use Rattle.replay_world.specs.Worlds.{sites_view, state_of}
 use Rattle.replay_world.proofs.Parts.{idles_refused, stays_itself}
 use Rattle.replay_world.proofs.EventSteps.{node_exists}

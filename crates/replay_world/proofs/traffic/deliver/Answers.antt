@@ -2,7 +2,7 @@ use Rattle.std.proofs.Common.{◌≡◌, is_some, true, false, refl, sym, Some, 
 use Rattle.std.proofs.lemmas.Result.{err_from_is_err_and}
 use Rattle.spec_script.specs.Steps as spec
 use Rattle.spec_script.specs.Events.{Deliver}
-use Rattle.script_answers.specs.declared.refusal.Refusal.TheVariants as refusals
+use Rattle.script_lines.specs.declared.refusal.Refusal.TheVariants as refusals
 use Rattle.replay_world.specs.Worlds.{sites_view, state_of}
 use Rattle.replay_world.proofs.Parts.{comes_refused}
 use Rattle.replay_world.proofs.EventSteps.{unknown_receiver, no_document, delivers_document}

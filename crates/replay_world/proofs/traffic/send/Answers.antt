@@ -4,7 +4,7 @@ use Rattle.http_message.specs.Reading.{message_view}
 use Rattle.spec_exchange.specs.Calls.{Asks, sends}
 use Rattle.spec_script.specs.Steps as spec
 use Rattle.spec_script.specs.Events.{Send}
-use Rattle.script_answers.specs.declared.refusal.Refusal.TheVariants as refusals
+use Rattle.script_lines.specs.declared.refusal.Refusal.TheVariants as refusals
 use Rattle.replay_world.specs.Worlds.{sites_view, state_of}
 use Rattle.replay_world.proofs.Parts.{comes_refused, comes_unfit, comes_same}
 use Rattle.replay_world.proofs.EventSteps.{unknown_sender, no_request, sends_request}

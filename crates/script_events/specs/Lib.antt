@@ -1,4 +1,0 @@
-pub mod Members
-pub mod Kinds
-pub mod View
-pub mod Reading

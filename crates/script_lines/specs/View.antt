@@ -1,0 +1,62 @@
+-- The events and refusals of the definitions that values of the program are.
+use Rattle.std.specs.Prelude.{option_map}
+use Rattle.n32_values.specs.View.{tree_of}
+use Rattle.http_message.specs.Reading.{member_view}
+use Rattle.block_forms.specs.Faults.{limit_view}
+use Rattle.context_records.specs.View.{suite_view, key_set_view}
+use Rattle.sending_sepp.specs.Sending as sending
+use Rattle.receiving_sepp.specs.Views.{refused_view}
+use Rattle.spec_exchange.specs.Outside as outside
+use Rattle.spec_script.specs.Events as events
+use Rattle.spec_script.specs.Refusals as spec
+use Rattle.script_lines.specs.declared.event.HandedContext.{HandedContext}
+use Rattle.script_lines.specs.declared.event.Event.{Event}
+use Rattle.script_lines.specs.declared.event.Event.TheVariants.{Node, Context, Keys, Send, Inject, Deliver, Restart}
+use Rattle.script_lines.specs.declared.refusal.Refusal.{Refusal}
+use Rattle.script_lines.specs.declared.refusal.Refusal.TheVariants as refusals
+
+-- ---- events
+
+abbrev pub handed_view : HandedContext → events.HandedContext
+handed_view x = record {
+  node = x.node;
+  id = x.id.value;
+  peer_node = x.peer_node;
+  peer = x.peer.value;
+  plmn = x.plmn;
+  suite = suite_view x.suite;
+  policy = tree_of x.policy;
+  own_ipx = x.own_ipx;
+  peer_ipx = x.peer_ipx;
+}
+
+abbrev pub event_view : Event → events.Event
+event_view (Node node plmn) = events.AddNode node plmn
+event_view (Context x) = events.AddContext (handed_view x)
+event_view (Keys node id keys) = events.AddKeys node id.value (key_set_view keys)
+event_view (Send node id message answers) = events.Send node id.value (tree_of message) (option_map (λ i. i.value) answers)
+event_view (Inject document) = events.Inject (tree_of document)
+event_view (Deliver node wire) = events.Deliver node wire
+event_view (Restart node) = events.Restart node
+
+-- ---- refusals
+
+abbrev pub refusal_view : Refusal → spec.Refusal
+refusal_view refusals.Syntax = spec.Syntax
+refusal_view refusals.Number = spec.OtherNumber
+refusal_view (refusals.Event name) = spec.BadEvent name.now
+refusal_view refusals.NodeUnknown = spec.NodeUnknown
+refusal_view refusals.NodeExists = spec.NodeExists
+refusal_view refusals.WireUnknown = spec.WireUnknown
+refusal_view (refusals.Limit which) = spec.Beyond (limit_view which)
+refusal_view refusals.KeysTwice = spec.KeysTwice
+refusal_view refusals.ContextNotFound = spec.ContextNotFound
+refusal_view (refusals.Message member) = spec.BadMessage (member_view member)
+refusal_view refusals.Depth = spec.DeepBody
+refusal_view (refusals.PolicyForm mapping) = spec.BadPolicy mapping
+refusal_view refusals.ContextUsed = spec.ContextUsed
+refusal_view refusals.NotBuilt = spec.NotBuilt
+refusal_view (refusals.Sending fault) = spec.OfSending (sending.refusal_view fault)
+refusal_view (refusals.Receiving refused) = spec.OfReceiving (refused_view refused)
+refusal_view (refusals.Journal number) = spec.OfOutside (outside.Journal number)
+refusal_view refusals.Keeper = spec.OfOutside outside.Keeper

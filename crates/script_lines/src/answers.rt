@@ -1,0 +1,122 @@
+// The documents of answers, one a line.
+ghost use Rattle.std.specs.Prelude.{◌≡◌, ◌≤◌, OnOk, IfOk, option_map};
+ghost use Rattle.n32_values.specs.View.{tree_of};
+ghost use Rattle.spec_documents.specs.Tree.{depth as nesting, put_member};
+ghost use Rattle.http_message.specs.Reading.{message_view};
+ghost use Rattle.spec_script.specs.Steps as spec;
+ghost use Rattle.spec_script.specs.Answers.{answer_text, number_tree, with_detail};
+ghost use Rattle.script_lines.specs.AnswerTexts.{delivered_answer, document_in, sealed_answer};
+ghost use Rattle.script_lines.specs.View.{refusal_view};
+
+use crate::answer_messages::message_node;
+use crate::refusal::Refusal;
+use crate::refusal_detail::detail_text;
+use doc_forms::{put, put_text};
+use http_message::Message;
+use n32_values::{Bytes, Doc, Hex64, NoMemory, Node, NodeMap, Text, Whole, doc_text, hex64_text};
+use std::alloc::Global;
+
+fn put_number(alloc: Global, map: &mut NodeMap, name: &str, number: u64) -> Result<(), NoMemory>
+    ensures { OnOk result (map.new ≡ put_member name.now (number_tree number) map.old) }
+{
+    put(alloc, map, name, Node::Whole(Whole::from_u64(number)))
+}
+
+/// The event of that name is done, as `{"line":1,"ok":"node"}`.
+pub fn done_text(alloc: Global, number: u64, name: &str) -> Result<Bytes, NoMemory>
+    ensures { IfOk result (λ text. text ≡ answer_text number (spec.Fine name.now)) }
+{
+    let mut map = NodeMap::new(alloc);
+    put_text(alloc, &mut map, "ok", name)?;
+    put_number(alloc, &mut map, "line", number)?;
+    doc_text(alloc, &Node::Members(map))
+}
+
+/// A document has this number on the wire, as `{"line":7,"wire":2}`.
+pub fn wire_text(alloc: Global, number: u64, wire: u64) -> Result<Bytes, NoMemory>
+    ensures { IfOk result (λ text. text ≡ answer_text number (spec.OnWire wire)) }
+{
+    let mut map = NodeMap::new(alloc);
+    put_number(alloc, &mut map, "wire", wire)?;
+    put_number(alloc, &mut map, "line", number)?;
+    doc_text(alloc, &Node::Members(map))
+}
+
+// The document that an answer holds.
+fn take_document(answer: Node) -> Option<Node>
+    ensures { option_map tree_of result ≡ document_in (tree_of answer) }
+{
+    match answer {
+        Node::Members(map) => {
+            let mut map = map;
+            map.take("document")
+        }
+        _ => None,
+    }
+}
+
+/// A message is sealed, and its document has this number on the wire: `{"document":{..},"line":7,"wire":1}`. The
+/// document is handed back.
+pub fn sealed_text(
+    alloc: Global,
+    number: u64,
+    document: Doc,
+    wire: u64,
+) -> Result<(Bytes, Doc), NoMemory>
+    ensures text { IfOk result (λ r. r.0 ≡ sealed_answer number document wire) }
+    ensures document { IfOk result (λ r. r.1 ≡ document) }
+{
+    let _shallow = document.node();
+    let mut map = NodeMap::new(alloc);
+    put_number(alloc, &mut map, "wire", wire)?;
+    put_number(alloc, &mut map, "line", number)?;
+    put(alloc, &mut map, "document", document.into_node())?;
+    let answer = Node::Members(map);
+    let text = doc_text(alloc, &answer)?;
+    match take_document(answer) {
+        Some(node) => Ok((text, Doc::from_shallow(node))),
+        None => unreachable!(),
+    }
+}
+
+/// A message is delivered under its message id, as `{"delivered":{..},"line":8,"message":"0000000000000000"}`.
+pub fn delivered_text(
+    alloc: Global,
+    number: u64,
+    message: Message,
+    id: Hex64,
+) -> Result<Bytes, NoMemory>
+    ensures { IfOk result (λ text. text ≡ delivered_answer number (message_view message) id.value) }
+{
+    let mut map = NodeMap::new(alloc);
+    put(
+        alloc,
+        &mut map,
+        "message",
+        Node::Words(hex64_text(alloc, id)?),
+    )?;
+    put_number(alloc, &mut map, "line", number)?;
+    put(alloc, &mut map, "delivered", message_node(alloc, message)?)?;
+    doc_text(alloc, &Node::Members(map))
+}
+
+fn put_detail(alloc: Global, map: &mut NodeMap, detail: Option<Text>) -> Result<(), NoMemory>
+    ensures { OnOk result (map.new ≡ with_detail detail map.old) }
+{
+    match detail {
+        Some(detail) => put(alloc, map, "detail", Node::Words(detail)),
+        None => Ok(()),
+    }
+}
+
+/// The line is refused, as `{"detail":"do","line":7,"name":"EVENT","refused":3}`.
+pub fn refusal_text(alloc: Global, number: u64, refusal: &Refusal) -> Result<Bytes, NoMemory>
+    ensures { IfOk result (λ text. text ≡ answer_text number (spec.Refuses (refusal_view refusal.now))) }
+{
+    let mut map = NodeMap::new(alloc);
+    put_number(alloc, &mut map, "refused", refusal.number())?;
+    put_text(alloc, &mut map, "name", refusal.name())?;
+    put_number(alloc, &mut map, "line", number)?;
+    put_detail(alloc, &mut map, detail_text(alloc, refusal)?)?;
+    doc_text(alloc, &Node::Members(map))
+}
