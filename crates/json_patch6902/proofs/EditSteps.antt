@@ -1,5 +1,6 @@
 -- A change in place, one token further down.
 use Rattle.std.proofs.Common.{◌≡◌, ℕ, zero, suc, ◌+◌, ◌<◌, List, [], ◌∷◌, length, slice_get, slice_set, Bool, true, false, Option, Some, None, Result, Ok, Err, Ordering, Less, Equal, Greater, refl, sym, ap, ◌∙◌, subst, arith}
+use Rattle.std.specs.Prelude.{IfOk}
 use Rattle.std.specs.Ordering.{match_ordering}
 use Rattle.std.specs.List.{remove}
 use Rattle.spec_documents.specs.Tree.{Tree, items, trees, members, Members, no_members, member, name_cmp, set_item, remove_item, get_member, set_member, drop_member}
@@ -47,6 +48,19 @@ pub refused_under : (f : Edit) (x : List ℕ) (q : Pointer) (t : Tree) (e : Find
 refused_under f x q t NoPlace some h = (nothing_under f x q t no_place some h, refl)
 refused_under f x q t BadIndex some h = (nothing_under f x q t bad_index some h, refl)
 
+-- ---- the last token
+
+pub at_last : (x : List ℕ) (t u : Tree) → child x t ≡ Ok u → at t (x ∷ []) ≡ Ok u
+at_last x t u e = rw e refl
+
+pub empty_list : {X : Type 0} (xs : List X) → length xs ≡ 0 → xs ≡ []
+empty_list [] e = refl
+empty_list (x ∷ xs) e = absurd (omega arith)
+
+pub ok_under : (change : Change) (x : List ℕ) (q : Pointer) (t c : Tree) (r : Result (Option Node) EditFault) → child x t ≡ Ok c → IfOk r (TakenBy change q c) → IfOk r (TakenBy change (x ∷ q) t)
+ok_under change x q t c (Ok o) e h = taken_under change x q t c o e h
+ok_under change x q t c (Err why) e h = h
+
 -- ---- lists and objects
 
 pub there_is : {X : Type 0} (xs : List X) (i : ℕ) → i < length xs → slice_get xs i ≡ None → ⊥
@@ -72,3 +86,12 @@ drop_by Greater l t m ms ns e h = ap (member l t) (h e)
 pub drop_none : (k : List ℕ) (ms : Members) → get_member k ms ≡ None → drop_member k ms ≡ ms
 drop_none k no_members e = refl
 drop_none k (member l t ms) e = drop_by (name_cmp k l) l t (get_member k ms) ms (drop_member k ms) e (drop_none k ms)
+
+pub taken_none : (x : List ℕ) (ms : Members) → get_member x ms ≡ None → taking x (members ms) ≡ Err no_place
+taken_none x ms e = rw e refl
+
+pub member_child : (x : List ℕ) (ms : Members) (u : Tree) → get_member x ms ≡ Some u → child x (members ms) ≡ Ok u
+member_child x ms u e = ap (λ o. found o no_place) e
+
+pub member_none : (x : List ℕ) (ms : Members) → get_member x ms ≡ None → child x (members ms) ≡ Err no_place
+member_none x ms e = ap (λ o. found o no_place) e

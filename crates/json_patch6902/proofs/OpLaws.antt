@@ -3,7 +3,7 @@ use Rattle.std.proofs.Common.{◌≡◌, ℕ, zero, suc, ◌+◌, ◌<◌, ◌�
 use Rattle.std.proofs.lemmas.Bool.{le-leb, lt-leb, leb-true, ltb-true, lt-ltb, cases_lt}
 use Rattle.std.proofs.lemmas.Bool.Decides.{Decides-int_eq}
 use Rattle.std.proofs.lemmas.Slice.Eq.{bytes_eq-Decides}
-use Rattle.std.specs.Prelude.{⊤, nat_le, nat_lt, bytes_eq}
+use Rattle.std.specs.Prelude.{⊤, IsTrue, ◌↔◌, nat_le, nat_lt, bytes_eq}
 use Rattle.std.specs.Ordering.{int_eq}
 use Rattle.spec_documents.specs.Tree.{Tree, null, truth, whole, words, items, members, Trees, no_items, item, Members, no_members, member, depth, is_tree, same_truth, same_tree, same_items, same_members}
 use Rattle.spec_documents.specs.Place.{Pointer, Cause, no_place, test_failed, into_itself, too_deep, ◌>>=◌, child, at, with, is_prefix, is_beneath}
@@ -48,6 +48,13 @@ deeper a b h = ltb-true a b h
 pub no_deeper : (a b : ℕ) → nat_lt a b ≡ false → b ≤ a
 no_deeper a b h = ⊎_elim (λ (lt : a < b). let both : true ≡ false = sym (lt-ltb a b lt) ∙ h in cc) (λ (le : b ≤ a). le) (cases_lt a b)
 
+pub not_less : (a b : ℕ) → b ≤ a → nat_lt a b ≡ false
+not_less a b h = by (nat_lt a b) refl
+  where
+    by : (r : Bool) → nat_lt a b ≡ r → nat_lt a b ≡ false
+    by false e = e
+    by true e = let less : a < b = ltb-true a b e in absurd (omega arith)
+
 -- ---- what is added
 
 -- what was found to fit is added
@@ -80,9 +87,13 @@ pub replaced_is : (p : Pointer) (v t : Tree) → 0 < length p → (at t p >>= λ
 replaced_is [] v t h = absurd (omega arith)
 replaced_is (x ∷ p) v t h = replaced-edit x p v t
 
-pub some_token : (p : Pointer) → (p ≡ [] → ⊥) → 0 < length p
-some_token [] h = absurd (h refl)
-some_token (x ∷ p) h = omega arith
+-- what the test for no token says
+pub no_token : (b : Bool) (p : Pointer) → (IsTrue b ↔ (p ≡ [])) → b ≡ true → p ≡ []
+no_token b p h e = h.0 e
+
+pub some_token : (b : Bool) (p : Pointer) → (IsTrue b ↔ (p ≡ [])) → b ≡ false → 0 < length p
+some_token b [] h e = let both : true ≡ false = sym (h.1 refl) ∙ e in cc
+some_token b (x ∷ p) h e = omega arith
 
 -- ---- what is removed
 
@@ -151,7 +162,7 @@ none_taken (x ∷ y ∷ p) t why h = none_under x y p t (child x t) why refl h (
 no_move_by : (from p : Pointer) (t : Tree) (why : Cause) (r : Result Tree Cause) → at t from ≡ r → is_beneath from p ≡ false → removed from t ≡ Err why → edited (spec.move from p) t ≡ Err why
 no_move_by from p t why (Ok u) a o e = rw (o, a, e) refl
 no_move_by from p t why (Err w) a o e =
-    let same : Err w ≡ Err why = sym (removed_is from t ∙ none_taken from t w a) ∙ e in
+    let same : ◌≡◌ {A = Result Tree Cause} (Err w) (Err why) = sym (removed_is from t ∙ none_taken from t w a) ∙ e in
     rw (o, a) same
 
 -- a move of what can't be taken out
@@ -170,6 +181,9 @@ pub back_is : (p : Pointer) (t w u s : Tree) → IsDoc t → at t p ≡ Ok u →
 back_is p t w u s doc a e r = let both : ◌≡◌ {A = Result Tree Cause} (Ok s) (Ok t) = sym r ∙ put-back p t w u doc.tree a e in cc
 
 -- ---- tests
+
+pub other_tree : (b : Bool) (u v : Tree) → (IsTrue b ↔ (u ≡ v)) → b ≡ false → u ≡ v → ⊥
+other_tree b u v h e same = let both : true ≡ false = sym (h.1 same) ∙ e in cc
 
 same_truth-self : (b : Bool) → same_truth b b ≡ true
 same_truth-self true = refl
