@@ -49,7 +49,12 @@ fn replace_at(alloc: Global, node: &mut Node, path: &Pointer, value: Node) -> Re
         *node = value;
         return Ok(());
     }
-    change_at(alloc, node, path.tokens().as_slice(), Change::Replace(value))?;
+    change_at(
+        alloc,
+        node,
+        path.tokens().as_slice(),
+        Change::Replace(value),
+    )?;
     Ok(())
 }
 

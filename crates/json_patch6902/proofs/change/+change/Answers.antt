@@ -1,4 +1,5 @@
 use Rattle.std.proofs.Common.{◌≡◌, [], ◌∷◌, length, Ok, Err, refl, sym, ap, ◌∙◌, arith}
+use Rattle.std.proofs.lemmas.Bool.{eqb-true}
 use Rattle.std.proofs.lemmas.Result.{err_from_is_err_and}
 use Rattle.spec_documents.specs.Tree.{items, trees, members, set_member, get_member}
 use Rattle.spec_documents.specs.Place.{no_place, child}
@@ -10,18 +11,18 @@ use Rattle.json_patch6902.proofs.change.+change.Goals as goal
 
 pub change_at-returns-then-is_empty-clause-edit : goal.change_at-returns-then-is_empty-clause-edit
 change_at-returns-then-is_empty-clause-edit t c =
-    let none : length c.in-Some.rest.now ≡ 0 = omega arith in
-    let path : c.args.path.now ≡ c.in-Some.token.now ∷ [] = c.in-Some.ensures.cases ∙ ap (λ q. c.in-Some.token.now ∷ q) (empty_list c.in-Some.rest.now none) in
+    let none : length c.in-Some.rest.now ≡ 0 = eqb-true (length c.in-Some.rest.now) 0 (sym c.is_empty.ensures ∙ c.if-is_empty.true) in
+    let path : c.args.path.now ≡ c.in-Some.token.now ∷ [] = c.in-Some.ensures.cases.0 ∙ ap (λ q. c.in-Some.token.now ∷ q) (empty_list c.in-Some.rest.now none) in
     rw path c.change_child.ensures.edit
 
 pub change_at-returns-then-is_empty-clause-taken : goal.change_at-returns-then-is_empty-clause-taken
 change_at-returns-then-is_empty-clause-taken t c =
-    let none : length c.in-Some.rest.now ≡ 0 = omega arith in
-    let path : c.args.path.now ≡ c.in-Some.token.now ∷ [] = c.in-Some.ensures.cases ∙ ap (λ q. c.in-Some.token.now ∷ q) (empty_list c.in-Some.rest.now none) in
+    let none : length c.in-Some.rest.now ≡ 0 = eqb-true (length c.in-Some.rest.now) 0 (sym c.is_empty.ensures ∙ c.if-is_empty.true) in
+    let path : c.args.path.now ≡ c.in-Some.token.now ∷ [] = c.in-Some.ensures.cases.0 ∙ ap (λ q. c.in-Some.token.now ∷ q) (empty_list c.in-Some.rest.now none) in
     rw path c.change_child.ensures.taken
 
 pub change_at-returns-in_default : goal.change_at-returns-in_default
-change_at-returns-in_default t c = let h = c.in_default.ensures.cases in let k = c.split_first.ensures.cases in ?
+change_at-returns-in_default t c = record { edit = (rw (empty_list c.args.path.now c.in_default.ensures.cases) refl, refl); taken = tt }
 
 pub change_in_item-returns-in_err-place-clause-edit : goal.change_in_item-returns-in_err-place-clause-edit
 change_in_item-returns-in_err-place-clause-edit t c =

@@ -19,7 +19,7 @@ returns-in-None-clause-edit c = absurd (there_is c.args.list.now c.in_ok-i-in-Ta
 pub returns-in-Some-get_mut-clause-edit : goal.returns-in-Some-get_mut-clause-edit
 returns-in-Some-get_mut-clause-edit c =
     rw c.in-Replace.is (replaced_item c.args.token.now c.args.list.now c.in_ok-i-in-Replace.i (tree_of c.in-Some-get_mut.item.now) (tree_of c.in-Replace.value) c.in_ok-i-in-Replace.ensures (sym c.in-Some-get_mut.ensures.value)
-        ∙ ap (λ n. Ok (items (trees (slice_set c.args.list.now c.in_ok-i-in-Replace.i (tree_of n))))) (sym c.replace.ensures.after))
+    ∙ ap (λ n. Ok (items (trees (slice_set c.args.list.now c.in_ok-i-in-Replace.i (tree_of n))))) (sym c.replace.ensures.after))
 
 pub returns-in-None-get_mut-clause-edit : goal.returns-in-None-get_mut-clause-edit
 returns-in-None-get_mut-clause-edit c = absurd (there_is c.args.list.now c.in_ok-i-in-Replace.i c.in_ok-i-in-Replace.ensures.within (sym c.in-None-get_mut.ensures.value))

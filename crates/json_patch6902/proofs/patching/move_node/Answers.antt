@@ -23,4 +23,4 @@ pub returns-in_err-add_at-in-Err : goal.returns-in_err-add_at-in-Err
 returns-in_err-add_at-in-Err c =
     let p = err_from_is_err_and c.from_residual-in_err-add_at-in-Err.result c.from_residual-in_err-add_at-in-Err.ensures.1 in
     rw (p.1, p.2) (lost_edits c.args.from.now c.args.path.now (tree_of c.args.node.now) (tree_of c.in_ok-taken.taken) _ c.requires (sym c.is_beneath.ensures ∙ c.if-is_beneath.false) c.in_ok-taken.ensures.taken c.in_ok-taken.ensures.edit
-        _ _ c.in_err-add_at-in-Err.ensures)
+    _ _ c.in_err-add_at-in-Err.ensures)
