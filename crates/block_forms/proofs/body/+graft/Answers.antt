@@ -3,8 +3,8 @@ use Rattle.spec_documents.specs.Tree.{put_member}
 use Rattle.spec_messages.specs.Block as spec
 use Rattle.n32_values.specs.View.{tree_of}
 use Rattle.n32_values.proofs.Trees.{drop_at}
-use Rattle.message_rebuilding.proofs.Grafting.{graft_step}
-use Rattle.message_rebuilding.proofs.body.+graft.Goals as goal
+use Rattle.block_forms.proofs.Grafting.{graft_step}
+use Rattle.block_forms.proofs.body.+graft.Goals as goal
 
 pub returns : goal.returns
 returns t c =

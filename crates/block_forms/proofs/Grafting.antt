@@ -1,13 +1,16 @@
 -- Values put at their paths.
-use Rattle.std.proofs.Common.{◌≡◌, ℕ, zero, suc, ◌+◌, ◌≤◌, max, List, [], ◌∷◌, ◌++◌, map, length, Option, Some, None, Ordering, Less, Equal, Greater, refl, sym, ap, ◌∙◌, arith}
+use Rattle.std.proofs.Common.{◌≡◌, ℕ, zero, suc, ◌+◌, ◌≤◌, max, List, [], ◌∷◌, length, drop, slice_get, codes, Option, Some, None, Ordering, Less, Equal, Greater, refl, sym, ap, ◌∙◌, arith}
 use Rattle.std.specs.Ordering.{match_ordering}
-use Rattle.std.proofs.lemmas.List.{map-append}
 use Rattle.spec_documents.specs.Tree.{Tree, null, truth, whole, words, items, members, Members, no_members, member, name_cmp, get_member, put_member, depth, members_depth}
 use Rattle.spec_documents.specs.Place.{Pointer}
 use Rattle.spec_documents.proofs.TreeLemmas.{name_self, got_low}
 use Rattle.spec_messages.specs.Message.{body_depth}
 use Rattle.spec_messages.specs.Block.{Items, members_of, or_empty_object, grafted, all_grafted, body_of}
 use Rattle.spec_messages.proofs.GrownLemmas.{Each}
+use Rattle.n32_values.proofs.Trees.{drop_at}
+use Rattle.spec_messages.specs.Fault.{member_or_null}
+use Rattle.block_forms.specs.Paths.{paths_of}
+use Rattle.block_forms.specs.Kept.{items_with}
 
 -- ---- of two values that a name takes the later stands
 
@@ -27,14 +30,24 @@ graft_step k p v t m n ms held new is lifted left made put =
     ap members (put ∙ ap (put_member k n) left ∙ put_put k n null ms ∙ ap (λ x. put_member k x ms) (made ∙ ap (grafted p v) lifted)
     ∙ ap (λ xs. put_member k (grafted p v (or_empty_object (get_member k xs))) xs) is)
 
-all_more : (is : Items) (p : Pointer) (v t : Tree) → all_grafted (is ++ (p, v) ∷ []) t ≡ grafted p v (all_grafted is t)
-all_more [] p v t = refl
-all_more (i ∷ is) p v t = all_more is p v (grafted i.0 i.1 t)
+no_values : (ps : List Pointer) → items_with ps [] ≡ []
+no_values [] = refl
+no_values (p ∷ ps) = refl
 
 -- one more item
-pub item_grafted : {X : Type 0} (view : X → Pointer × Tree) (done : List X) (x : X) (p : Pointer) (v t n m : Tree) → view x ≡ (p, v) → n ≡ all_grafted (map view done) t → m ≡ grafted p v n → m ≡ all_grafted (map view (done ++ x ∷ [])) t
-item_grafted view done x p v t n m is so_far made =
-    made ∙ ap (grafted p v) so_far ∙ sym (all_more (map view done) p v t) ∙ ap (λ i. all_grafted (map view done ++ i ∷ []) t) (sym is) ∙ ap (λ is. all_grafted is t) (sym (map-append view done (x ∷ [])))
+pub graft_at : (ps : List Pointer) (ts : List Tree) (i : ℕ) (p : Pointer) (t v n m all : Tree) → slice_get ps i ≡ Some p → slice_get ts i ≡ Some t → v ≡ member_or_null (codes "value") (members_of t) → m ≡ grafted p v n
+    → all_grafted (items_with (drop i ps) (drop i ts)) n ≡ all → all_grafted (items_with (drop (i + 1) ps) (drop (i + 1) ts)) m ≡ all
+graft_at ps ts i p t v n m all a b value made h =
+    ap (all_grafted (items_with (drop (i + 1) ps) (drop (i + 1) ts))) (made ∙ ap (λ w. grafted p w n) value) ∙ (rw (drop_at ps i p a, drop_at ts i t b) at h)
+
+-- no item is left
+pub graft_done : (ps : List Pointer) (ts : List Tree) (i : ℕ) (n all : Tree) → drop i ts ≡ [] → all_grafted (items_with (drop i ps) (drop i ts)) n ≡ all → n ≡ all
+graft_done ps ts i n all e h = ap (λ is. all_grafted is n) (sym (ap (items_with (drop i ps)) e ∙ no_values (drop i ps))) ∙ h
+
+pub body_grafted : (ps : List Pointer) (ts : List Tree) (n : Tree) → ps ≡ paths_of ts → (length ts ≡ 0 → ⊥) → n ≡ all_grafted (items_with ps ts) (members no_members) → Some n ≡ body_of (items_with ps ts)
+body_grafted ps [] n e some h = absurd (some refl)
+body_grafted [] (t ∷ ts) n e some h = cc
+body_grafted (p ∷ ps) (t ∷ ts) n e some h = ap Some h
 
 -- ---- how deep it gets
 
