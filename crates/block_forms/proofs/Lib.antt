@@ -2,6 +2,8 @@ pub mod Exactly
 pub mod Loops
 pub mod LineForms
 pub mod Deep
-pub mod Reading
+pub mod PathLists
 pub mod Overlap
 pub mod Telling
+pub mod Grafting
+pub mod Standing

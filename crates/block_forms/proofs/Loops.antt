@@ -3,7 +3,7 @@ use Rattle.std.proofs.Common.{◌≡◌, ℕ, ◌+◌, List, ◌∷◌, Bool, tr
 use Rattle.std.specs.List.{list_all}
 use Rattle.spec_documents.specs.Tree.{Tree}
 use Rattle.spec_documents.specs.Fields.{Field, fields}
-use Rattle.spec_messages.specs.Fault.{is_known, first_unknown, first_of}
+use Rattle.spec_messages.specs.Fault.{is_known, first_unknown}
 use Rattle.n32_values.proofs.Trees.{drop_at}
 
 all_passed : {X : Type 0} (f : X → Bool) (x : X) (xs ys : List X) → xs ≡ x ∷ ys → f x ≡ true → list_all f xs ≡ list_all f ys
@@ -29,11 +29,3 @@ known_at xs i k t e p = known_passed k t (drop i xs) (drop (i + 1) xs) (drop_at 
 
 pub unknown_at : (xs : List Field) (i : ℕ) (k : List ℕ) (t : Tree) → slice_get xs i ≡ Some (k, t) → is_known k ≡ false → first_unknown (fields (drop i xs)) ≡ Some k
 unknown_at xs i k t e p = unknown_met k t (drop i xs) (drop (i + 1) xs) (drop_at xs i (k, t) e) p
-
--- ---- the first of two faults
-
-pub first_met : {X : Type 0} (a b : Option X) (x : X) → a ≡ Some x → first_of a b ≡ Some x
-first_met a b x e = rw e
-
-pub first_past : {X : Type 0} (a b : Option X) → a ≡ None → first_of a b ≡ b
-first_past a b e = rw e

@@ -1,5 +1,5 @@
 -- What an answer tells of the first fault of a block, and of what there is too much.
-use Rattle.std.specs.Prelude.{◌≡◌, ℕ, List, [], Option, Some, None, Result, nat_lt, codes}
+use Rattle.std.specs.Prelude.{◌≡◌, ⊤, ℕ, List, [], Option, Some, None, Result, nat_lt, codes}
 use Rattle.spec_documents.specs.Tree.{Tree, get_member}
 use Rattle.spec_documents.specs.Hole.{HolePlace, HoleFault, bad_hole, twice, missing, places}
 use Rattle.spec_messages.specs.Block.{members_of}
@@ -10,6 +10,8 @@ use Rattle.block_forms.specs.declared.fault.LimitName.{LimitName}
 use Rattle.block_forms.specs.declared.fault.LimitName.TheVariants.{Headers, Payload, Values, Block, Wire, Alter, Records}
 use Rattle.block_forms.specs.declared.fault.BlockWhy.{BlockWhy}
 use Rattle.block_forms.specs.declared.fault.BlockWhy.TheVariants as why
+use Rattle.block_forms.specs.declared.fault.BlockRead.{BlockRead}
+use Rattle.block_forms.specs.declared.fault.BlockRead.TheVariants.{Refused, NoMemory}
 
 abbrev pub limit_view : LimitName → Limit
 limit_view Headers = many_headers
@@ -38,13 +40,24 @@ abbrev pub IsFault : Option BlockWhy → Option BlockFault → Type 0
 IsFault None fault = fault ≡ None
 IsFault (Some w) fault = Tells w fault
 
+abbrev pub Refuses : BlockRead → Option BlockFault → Type 0
+Refuses (Refused why) fault = Tells why fault
+Refuses NoMemory fault = ⊤
+
+-- the faults of the paths of items
+abbrev pub paths_fault : List Tree → Option BlockFault
+paths_fault payload = first_of (as_fault ie_path (first_pathless 1 payload)) (as_fault overlap (first_overlap 1 [] payload))
+
+-- the faults of the holes and of the depth, once the paths are right
+abbrev pub values_fault : List Tree → Result (List HolePlace) HoleFault → Option BlockFault
+values_fault payload found = first_of (as_fault bad_holes (hole_fault found)) (when (nat_lt 64 (items_depth payload)) deep)
+
 -- the faults of items, once the members and the limits are right
 abbrev pub later_fault : List Tree → Result (List HolePlace) HoleFault → Option BlockFault
 later_fault payload found =
     first_of (as_fault ie_path (first_pathless 1 payload))
     (first_of (as_fault overlap (first_overlap 1 [] payload))
-    (first_of (as_fault bad_holes (hole_fault found))
-    (when (nat_lt 64 (items_depth payload)) deep)))
+    (values_fault payload found))
 
 -- the faults once the members are right
 abbrev pub past_members : Tree → ℕ → Option BlockFault

@@ -5,3 +5,4 @@ pub mod Paths
 pub mod Numbered
 pub mod Faults
 pub mod Parts
+pub mod Kept

@@ -1,15 +1,16 @@
 // The line of a block.
-ghost use Rattle.std.specs.Prelude.{◌≡◌, IfOk, OnOk, option_map, is_ok, ◌&&◌, codes};
-ghost use Rattle.std.specs.Option.{option_copied};
+ghost use Rattle.std.specs.Prelude.{◌≡◌, IfOk, MatchResult, OnOk, None, option_map, true, is_ok, ◌&&◌, codes};
 ghost use Rattle.spec_documents.specs.Tree.{members, get_member, same_tree, put_member, words};
 ghost use Rattle.spec_messages.specs.Message.{any_text, text_at, head_of};
 ghost use Rattle.spec_messages.specs.Block.{block_parts, request_tree, members_of};
 ghost use Rattle.spec_messages.specs.Fault as spec;
 ghost use Rattle.n32_values.specs.View.{tree_of};
 ghost use Rattle.block_forms.specs.Lines.{put_query};
+ghost use Rattle.block_forms.specs.Kept.{ReadsHead, RefusesLine, RefusesMembers};
 
+use crate::parts::MembersRead;
 use doc_forms::{Grammar, put_text, text_at};
-use http_message::{Form, MessageRead, block_parts_are_kept, read_head};
+use http_message::{Form, Head, MessageRead, block_parts_are_kept, read_head};
 use n32_values::{NoMemory, Node, NodeMap, is_same_doc};
 use std::alloc::Global;
 
@@ -70,45 +71,71 @@ fn is_exact_line(alloc: Global, line: &Node) -> Result<bool, NoMemory>
     Ok(is_same(line, &again))
 }
 
-// Whether the line is read, whose parts may be holes.
+/// Why the line of a block isn't read.
+#[derive(Clone, Copy, Drop)]
+pub(crate) enum LineRead {
+    // It has no such form.
+    NoLine,
+    NoMemory,
+}
+
+impl From<NoMemory> for LineRead {
+    ghost use Rattle.std.specs.Prelude.{◌≡◌};
+    ghost use Rattle.block_forms.specs.declared.line.LineRead.TheVariants.{NoMemory as refused_memory};
+
+    ghost from_gives = { λ _ e. e ≡ refused_memory };
+
+    fn from(_refused: NoMemory) -> LineRead {
+        LineRead::NoMemory
+    }
+}
+
+// The line, whose parts may be holes.
 #[tactic(auto, using(crate::proofs::LineForms::same_ok))]
-fn is_line_read(alloc: Global, map: &NodeMap) -> Result<bool, NoMemory>
-    ensures { IfOk result (λ read. read ≡ is_ok (head_of block_parts map.now)) }
+fn read_parts(alloc: Global, map: &NodeMap) -> Result<Head, LineRead>
+    ensures { MatchResult result
+        (λ head. (is_ok (head_of block_parts map.now) ≡ true) × ReadsHead head (members map.now))
+        (λ why. RefusesLine why (is_ok (head_of block_parts map.now))) }
 {
     block_parts_are_kept();
     match read_head(alloc, Form::Block, map) {
-        Ok(_) => Ok(true),
-        Err(MessageRead::NoMemory) => Err(NoMemory),
-        Err(_) => Ok(false),
+        Ok(head) => Ok(head),
+        Err(MessageRead::NoMemory) => Err(LineRead::NoMemory),
+        Err(_) => Err(LineRead::NoLine),
     }
 }
 
-// Whether the line is that of a request, with the members of one alone.
-fn is_request_line(alloc: Global, map: &NodeMap, line: &Node) -> Result<bool, NoMemory>
-    ensures { IfOk result (λ right. right ≡ (same_tree (tree_of line.now) (request_tree (spec.request_text_of (members_of (tree_of line.now)))) && is_ok (head_of block_parts map.now))) }
+// The line of a request, with the members of one alone.
+fn read_request(alloc: Global, map: &NodeMap, line: &Node) -> Result<Head, LineRead>
+    ensures { MatchResult result
+        (λ head. ((same_tree (tree_of line.now) (request_tree (spec.request_text_of (members_of (tree_of line.now)))) && is_ok (head_of block_parts map.now)) ≡ true) × ReadsHead head (members map.now))
+        (λ why. RefusesLine why (same_tree (tree_of line.now) (request_tree (spec.request_text_of (members_of (tree_of line.now)))) && is_ok (head_of block_parts map.now))) }
 {
     if !is_exact_line(alloc, line)? {
-        return Ok(false);
+        return Err(LineRead::NoLine);
     }
-    is_line_read(alloc, map)
+    read_parts(alloc, map)
 }
 
-// The name of a line that isn't right: neither or both lines are there, or the one that is has a wrong form.
-pub(crate) fn line_fault(alloc: Global, map: &NodeMap) -> Result<Option<&'static str>, NoMemory>
-    ensures { IfOk result (λ name. option_copied name ≡ spec.line_fault (get_member (codes "requestLine") map.now) (get_member (codes "statusLine") map.now)) }
+// The line of a block. Where neither or both lines are there, or the one that is has a wrong form, a
+// member is named.
+pub(crate) fn read_line(alloc: Global, map: &NodeMap) -> Result<Head, MembersRead<'static>>
+    ensures { MatchResult result
+        (λ head. (spec.line_fault (get_member (codes "requestLine") map.now) (get_member (codes "statusLine") map.now) ≡ None) × ReadsHead head (members map.now))
+        (λ why. RefusesMembers why (spec.line_fault (get_member (codes "requestLine") map.now) (get_member (codes "statusLine") map.now))) }
 {
     match (map.get("requestLine"), map.get("statusLine")) {
-        (Some(line), None) => if is_request_line(alloc, map, line)? {
-            Ok(None)
-        } else {
-            Ok(Some("requestLine"))
+        (Some(line), None) => match read_request(alloc, map, line) {
+            Ok(head) => Ok(head),
+            Err(LineRead::NoLine) => Err(MembersRead::Member("requestLine")),
+            Err(LineRead::NoMemory) => Err(MembersRead::NoMemory),
         },
-        (None, Some(_)) => if is_line_read(alloc, map)? {
-            Ok(None)
-        } else {
-            Ok(Some("statusLine"))
+        (None, Some(_)) => match read_parts(alloc, map) {
+            Ok(head) => Ok(head),
+            Err(LineRead::NoLine) => Err(MembersRead::Member("statusLine")),
+            Err(LineRead::NoMemory) => Err(MembersRead::NoMemory),
         },
-        (None, None) => Ok(Some("requestLine")),
-        (Some(_), Some(_)) => Ok(Some("statusLine")),
+        (None, None) => Err(MembersRead::Member("requestLine")),
+        (Some(_), Some(_)) => Err(MembersRead::Member("statusLine")),
     }
 }

@@ -1,17 +1,27 @@
 // The members of a block.
-ghost use Rattle.std.specs.Prelude.{◌≡◌, IfOk, [], codes};
+ghost use Rattle.std.specs.Prelude.{◌≡◌, MatchResult, None, [], codes};
 ghost use Rattle.std.specs.Option.{option_copied, option_map_or};
 ghost use Rattle.spec_documents.specs.Tree.{get_member, members};
 ghost use Rattle.spec_messages.specs.Block.{members_of};
 ghost use Rattle.spec_messages.specs.Fault as spec;
 ghost use Rattle.n32_values.specs.View.{tree_of};
+ghost use Rattle.block_forms.specs.Kept.{ReadsHead, RefusesMembers};
 ghost use Rattle.block_forms.specs.Parts.{lists_fault, members_fault};
 
-use crate::line::line_fault;
+use crate::line::read_line;
 use crate::lists::{are_headers, are_items};
 use crate::meta::has_meta;
-use n32_values::{NoMemory, Node, NodeList, NodeMap};
+use http_message::Head;
+use n32_values::{Node, NodeList, NodeMap};
 use std::alloc::Global;
+
+/// Why the members of a document aren't those of a block.
+#[derive(Clone, Copy, Drop)]
+pub(crate) enum MembersRead<'a> {
+    // The first member, by its name, that isn't right.
+    Member(&'a str),
+    NoMemory,
+}
 
 fn is_known(name: &str) -> bool
     ensures { result ≡ spec.is_known name.now }
@@ -50,29 +60,31 @@ fn lists_fault(map: &NodeMap) -> Option<&'static str>
     }
 }
 
-// The name of the first member that isn't right, beside `metaData`.
-fn members_fault(alloc: Global, map: &NodeMap) -> Result<Option<&str>, NoMemory>
-    ensures { IfOk result (λ name. option_copied name ≡ members_fault map.now) }
+// The line of an object whose members beside `metaData` are right.
+fn read_beside_meta(alloc: Global, map: &NodeMap) -> Result<Head, MembersRead<'_>>
+    ensures { MatchResult result
+        (λ head. (members_fault map.now ≡ None) × ReadsHead head (members map.now))
+        (λ why. RefusesMembers why (members_fault map.now)) }
 {
     if let Some(name) = first_unknown(map) {
-        return Ok(Some(name));
+        return Err(MembersRead::Member(name));
     }
-    if let Some(name) = line_fault(alloc, map)? {
-        return Ok(Some(name));
+    let head = read_line(alloc, map)?;
+    match lists_fault(map) {
+        Some(name) => Err(MembersRead::Member(name)),
+        None => Ok(head),
     }
-    Ok(lists_fault(map))
 }
 
-// The name of the first member that isn't right.
-pub(crate) fn member_fault(alloc: Global, node: &Node) -> Result<Option<&str>, NoMemory>
-    ensures { IfOk result (λ name. option_copied name ≡ spec.member_fault (tree_of node.now)) }
+/// The line of a node whose members are those of a block.
+pub(crate) fn read_members(alloc: Global, node: &Node) -> Result<Head, MembersRead<'_>>
+    ensures { MatchResult result
+        (λ head. (spec.member_fault (tree_of node.now) ≡ None) × ReadsHead head (tree_of node.now))
+        (λ why. RefusesMembers why (spec.member_fault (tree_of node.now))) }
 {
     match node {
-        Node::Members(map) if has_meta(node) => {
-            let name = members_fault(alloc, map)?;
-            Ok(name)
-        }
-        _ => Ok(Some("metaData")),
+        Node::Members(map) if has_meta(node) => read_beside_meta(alloc, map),
+        _ => Err(MembersRead::Member("metaData")),
     }
 }
 

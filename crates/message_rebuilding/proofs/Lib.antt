@@ -1,5 +1,2 @@
 pub mod Values
-pub mod Grafting
-pub mod Readings
 pub mod Fillings
-pub mod Blocks

@@ -5,12 +5,10 @@ ghost use Rattle.spec_messages.specs.Block.{clear_message as message_of_block};
 ghost use Rattle.spec_messages.specs.Fault.{block_fault};
 ghost use Rattle.message_rebuilding.specs.Filling.{Fills};
 
-use crate::clear::clear_message;
 use crate::filling::{RebuildFault, fill_message};
-use crate::laws::values_are_few;
+use block_forms::{Block, clear_message, values_are_few};
 use http_message::Message;
 use n32_values::NodeList;
-use reformat_blocks::Block;
 use std::alloc::Global;
 
 /// The message of a block, with each hole replaced by its value: `fill_message` of what

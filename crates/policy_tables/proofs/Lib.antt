@@ -3,3 +3,4 @@ pub mod MappingLemmas
 pub mod BodyNear
 pub mod SecretFound
 pub mod TouchLemmas
+pub mod CoverTree

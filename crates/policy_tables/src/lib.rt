@@ -8,6 +8,7 @@ mod covering;
 mod mapping;
 mod message_mapping;
 mod modifiable;
+mod rules;
 mod secret;
 
 pub use address::{Address, LinePart, address_text};
@@ -19,4 +20,5 @@ pub use policy_documents::{
     Policy, PolicyMatch, PolicyRead, Target, TypeList, mapping_doc, policy_doc, read_policy,
     same_policy,
 };
+pub use rules::{Covering, Rules};
 pub use secret::{is_secret, is_secret_header, is_secret_node, is_secret_pair, is_secret_segment};

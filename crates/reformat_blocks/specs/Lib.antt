@@ -2,4 +2,3 @@ pub mod View
 pub mod Rules
 pub mod Sent
 pub mod Splitting
-pub mod Reading

@@ -7,12 +7,13 @@ mod body;
 mod laws;
 mod message_split;
 mod parts;
-mod read;
 mod rules;
 mod sent;
 
-pub use block::{Block, Split, block_doc};
-pub use block_forms::{BlockWhy, LimitName, Meta, MetaRead, is_meta, read_meta};
+pub use block::Split;
+pub use block_forms::{
+    Block, BlockRead, BlockReading, BlockWhy, LimitName, Meta, MetaRead, block_doc, clear_message,
+    is_meta, read_block, read_meta,
+};
 pub use laws::split_is_undone;
 pub use message_split::{SplitFault, split};
-pub use read::{BlockRead, read_block};

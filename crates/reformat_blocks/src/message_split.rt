@@ -7,9 +7,9 @@ ghost use Rattle.http_message.specs.Reading.{message_view};
 ghost use Rattle.reformat_blocks.specs.Splitting.{splitting, Splits};
 ghost use Rattle.block_forms.specs.Metadata.{meta_view};
 
-use crate::block::{Block, Split};
+use crate::block::Split;
 use crate::sent::sent_of;
-use block_forms::{LimitName, Meta};
+use block_forms::{Block, LimitName, Meta};
 use http_message::Message;
 use n32_values::{Doc, NoMemory, text_length};
 use policy_tables::Policy;

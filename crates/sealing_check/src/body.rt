@@ -3,36 +3,29 @@
 ghost use Rattle.std.specs.Prelude.{◌≡◌, ◌++◌, ◌∷◌, [], IfOk, OnOk, option_map};
 ghost use Rattle.spec_documents.specs.Tree.{trees};
 ghost use Rattle.n32_values.specs.View.{tree_of};
+ghost use Rattle.policy_tables.specs.Covered.{Leads};
 ghost use Rattle.sealing_check.specs.Rules.{node_test};
 ghost use Rattle.sealing_check.specs.Found.{child_of, is_marked_there, clear_at, clear_items, clear_members};
 
 use doc_forms::number_text;
-use http_message::Kind;
 use json_ptr::{Pointer, step};
 use n32_values::{NoMemory, Node, NodeList, NodeMap, Text};
-use policy_tables::{Policy, is_secret_node};
+use policy_tables::{Covering, Rules};
 use std::alloc::Global;
 
-/// The filled body, with the policy, the mapping's number and the message's kind.
+/// The filled body, and the rules.
 #[derive(Clone, Copy, Drop)]
 pub(crate) struct Body<'a> {
-    pub(crate) policy: &'a Policy,
-    pub(crate) mapping: Option<u32>,
-    pub(crate) kind: Kind,
+    pub(crate) rules: &'a Rules<'a>,
     pub(crate) root: &'a Node,
 }
 
-fn is_secret(body: &Body<'_>, pointer: &Pointer, node: &Node) -> bool
+fn is_secret(body: &Body<'_>, covering: Covering<'_>, pointer: &Pointer, node: &Node) -> bool
+    requires { Leads body.now.rules.now pointer.now covering }
     ensures { result ≡ node_test body.now pointer.now (tree_of node.now) }
 {
-    is_secret_node(
-        body.policy,
-        body.mapping,
-        body.kind,
-        body.root,
-        pointer,
-        node,
-    )
+    body.rules
+        .is_secret_node(covering, body.root, pointer, node)
 }
 
 // Whether the body with holes has a hole there.
@@ -70,22 +63,24 @@ fn push_name(alloc: Global, pointer: &mut Pointer, name: &str) -> Result<(), NoM
 pub(crate) fn clear_node(
     alloc: Global,
     body: &Body<'_>,
+    covering: Covering<'_>,
     holed: Option<&Node>,
     node: &Node,
     pointer: &mut Pointer,
 ) -> Result<Option<Pointer>, NoMemory>
+    requires { Leads body.now.rules.now pointer.old covering }
     ensures place { IfOk result (λ p. p ≡ clear_at (node_test body.now) (option_map (λ n. tree_of n.now) holed.entry) pointer.old (tree_of node.now)) }
     ensures pointer { OnOk result (pointer.new ≡ pointer.old) }
 {
     if is_hole(holed) {
         return Ok(None);
     }
-    if is_secret(body, pointer, node) {
+    if is_secret(body, covering, pointer, node) {
         return Ok(Some(pointer.copy(alloc)?));
     }
     match node {
-        Node::Items(list) => clear_item(alloc, body, holed, list, pointer),
-        Node::Members(map) => clear_member(alloc, body, holed, map, pointer),
+        Node::Items(list) => clear_item(alloc, body, covering, holed, list, pointer),
+        Node::Members(map) => clear_member(alloc, body, covering, holed, map, pointer),
         _ => Ok(None),
     }
 }
@@ -94,10 +89,12 @@ pub(crate) fn clear_node(
 fn clear_item(
     alloc: Global,
     body: &Body<'_>,
+    covering: Covering<'_>,
     holed: Option<&Node>,
     list: &NodeList,
     pointer: &mut Pointer,
 ) -> Result<Option<Pointer>, NoMemory>
+    requires { Leads body.now.rules.now pointer.old covering }
     ensures place { IfOk result (λ p. p ≡ clear_items (node_test body.now) (option_map (λ n. tree_of n.now) holed.entry) pointer.old 0 (trees list.now)) }
     ensures pointer { OnOk result (pointer.new ≡ pointer.old) }
 {
@@ -105,9 +102,10 @@ fn clear_item(
     for i in 0..list.len() {
         let index = number_text(alloc, i as u64)?;
         let token = index.as_str();
+        let inner = covering.enter(token);
         push_name(alloc, pointer, token)?;
         let beside = child(holed, token);
-        let found = clear_node(alloc, body, beside, list.item(i), pointer)?;
+        let found = clear_node(alloc, body, inner, beside, list.item(i), pointer)?;
         pointer.truncate(depth);
         if let Some(place) = found {
             return Ok(Some(place));
@@ -120,10 +118,12 @@ fn clear_item(
 fn clear_member(
     alloc: Global,
     body: &Body<'_>,
+    covering: Covering<'_>,
     holed: Option<&Node>,
     map: &NodeMap,
     pointer: &mut Pointer,
 ) -> Result<Option<Pointer>, NoMemory>
+    requires { Leads body.now.rules.now pointer.old covering }
     ensures place { IfOk result (λ p. p ≡ clear_members (node_test body.now) (option_map (λ n. tree_of n.now) holed.entry) pointer.old map.now) }
     ensures pointer { OnOk result (pointer.new ≡ pointer.old) }
 {
@@ -131,9 +131,10 @@ fn clear_member(
     for i in 0..map.len() {
         let (name, node) = map.entry(i);
         let token = name.as_str();
+        let inner = covering.enter(token);
         push_name(alloc, pointer, token)?;
         let beside = child(holed, token);
-        let found = clear_node(alloc, body, beside, node, pointer)?;
+        let found = clear_node(alloc, body, inner, beside, node, pointer)?;
         pointer.truncate(depth);
         if let Some(place) = found {
             return Ok(Some(place));

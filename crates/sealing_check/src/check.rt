@@ -8,12 +8,11 @@ ghost use Rattle.policy_tables.specs.View.{address_view};
 ghost use Rattle.sealing_check.specs.Rules.{line_found, rest_found, body_found, all_found};
 
 use crate::body::{Body, clear_node};
-use crate::parts::{clear_header, clear_pair, clear_segment};
-use crate::rules::Rules;
+use crate::parts::{Sealed, clear_header, clear_pair, clear_segment};
 use http_message::{HeaderList, Message, Request};
 use json_ptr::Pointer;
 use n32_values::{Doc, NoMemory, Node};
-use policy_tables::{Address, Policy};
+use policy_tables::{Address, Policy, Rules};
 use std::alloc::Global;
 
 fn node_of(body: &Option<Doc>) -> Option<&Node>
@@ -33,35 +32,35 @@ fn body_of(message: &Message) -> Option<&Node>
 
 fn clear_in_line(
     alloc: Global,
-    rules: &Rules<'_>,
+    sealed: &Sealed<'_>,
     request: &Request,
 ) -> Result<Option<Address>, NoMemory>
-    ensures { IfOk result (λ a. option_map address_view a ≡ line_found rules.now (request_head (request_line request.now))) }
+    ensures { IfOk result (λ a. option_map address_view a ≡ line_found sealed.now (request_head (request_line request.now))) }
 {
-    match clear_segment(alloc, rules, &request.segments)? {
+    match clear_segment(alloc, sealed, &request.segments)? {
         Some(address) => Ok(Some(address)),
-        None => clear_pair(alloc, rules, &request.query),
+        None => clear_pair(alloc, sealed, &request.query),
     }
 }
 
 fn clear_in_body(
     alloc: Global,
-    rules: &Rules<'_>,
+    sealed: &Sealed<'_>,
     body: &Option<Doc>,
 ) -> Result<Option<Address>, NoMemory>
-    ensures { IfOk result (λ a. option_map address_view a ≡ body_found rules.now body.now) }
+    ensures { IfOk result (λ a. option_map address_view a ≡ body_found sealed.now body.now) }
 {
     let Some(root) = node_of(body) else {
         return Ok(None);
     };
     let body = Body {
-        policy: rules.policy,
-        mapping: rules.mapping,
-        kind: rules.kind,
+        rules: sealed.rules,
         root,
     };
+    let covering = sealed.rules.covering();
+    let holed = body_of(sealed.holed);
     let mut pointer = Pointer::new(alloc);
-    match clear_node(alloc, &body, body_of(rules.holed), root, &mut pointer)? {
+    match clear_node(alloc, &body, covering, holed, root, &mut pointer)? {
         Some(place) => Ok(Some(Address::Body(place))),
         None => Ok(None),
     }
@@ -69,32 +68,32 @@ fn clear_in_body(
 
 fn clear_in_rest(
     alloc: Global,
-    rules: &Rules<'_>,
+    sealed: &Sealed<'_>,
     headers: &HeaderList,
     body: &Option<Doc>,
 ) -> Result<Option<Address>, NoMemory>
-    ensures { IfOk result (λ a. option_map address_view a ≡ rest_found rules.now (map header_view headers.now) body.now) }
+    ensures { IfOk result (λ a. option_map address_view a ≡ rest_found sealed.now (map header_view headers.now) body.now) }
 {
-    match clear_header(alloc, rules, headers)? {
+    match clear_header(alloc, sealed, headers)? {
         Some(address) => Ok(Some(address)),
-        None => clear_in_body(alloc, rules, body),
+        None => clear_in_body(alloc, sealed, body),
     }
 }
 
 fn clear_in_message(
     alloc: Global,
-    rules: &Rules<'_>,
+    sealed: &Sealed<'_>,
     filled: &Message,
 ) -> Result<Option<Address>, NoMemory>
-    ensures { IfOk result (λ a. option_map address_view a ≡ all_found rules.now (message_view filled.now)) }
+    ensures { IfOk result (λ a. option_map address_view a ≡ all_found sealed.now (message_view filled.now)) }
 {
     match filled {
-        Message::Request(request) => match clear_in_line(alloc, rules, request)? {
+        Message::Request(request) => match clear_in_line(alloc, sealed, request)? {
             Some(address) => Ok(Some(address)),
-            None => clear_in_rest(alloc, rules, &request.headers, &request.body),
+            None => clear_in_rest(alloc, sealed, &request.headers, &request.body),
         },
         Message::Response(response) => {
-            clear_in_rest(alloc, rules, &response.headers, &response.body)
+            clear_in_rest(alloc, sealed, &response.headers, &response.body)
         }
     }
 }
@@ -115,12 +114,11 @@ pub fn first_in_clear(
 ) -> Result<Option<Address>, NoMemory>
     ensures { IfOk result (λ a. option_map address_view a ≡ in_clear policy.now mapping (message_view holed.now) (message_view filled.now)) }
 {
-    let rules = Rules {
-        policy,
-        mapping,
-        kind: filled.kind(),
+    let rules = Rules::new(alloc, policy, mapping, filled.kind())?;
+    let sealed = Sealed {
+        rules: &rules,
         holed,
     };
-    let address = clear_in_message(alloc, &rules, filled)?;
+    let address = clear_in_message(alloc, &sealed, filled)?;
     Ok(address)
 }

@@ -5,6 +5,5 @@
 mod body;
 mod check;
 mod parts;
-mod rules;
 
 pub use check::first_in_clear;

@@ -1,6 +1,6 @@
 use Rattle.std.proofs.Common.{◌+◌, sym, ◌∙◌}
 use Rattle.n32_values.specs.View.{tree_of}
-use Rattle.block_forms.proofs.Reading.{path_more, path_passed, pathless_met}
+use Rattle.block_forms.proofs.PathLists.{path_more, path_passed, pathless_met}
 use Rattle.block_forms.proofs.paths.read_paths.Goals as goal
 
 pub loop-i-preserved : goal.loop-i-preserved

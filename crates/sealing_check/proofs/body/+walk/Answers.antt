@@ -6,13 +6,14 @@ use Rattle.spec_documents.specs.Fields.{field_list}
 use Rattle.spec_documents.proofs.FieldLemmas.{fields-field_list}
 use Rattle.n32_values.specs.View.{tree_of}
 use Rattle.n32_values.proofs.Trees.{depth_within, member_depth_within}
+use Rattle.policy_tables.proofs.CoverTree.{leads_on}
 use Rattle.sealing_check.specs.Rules.{node_test}
 use Rattle.sealing_check.specs.Found.{child_of, clear_members}
 use Rattle.sealing_check.proofs.Walk.{item_none, item_found, member_none, member_found}
 use Rattle.sealing_check.proofs.body.+walk.Goals as goal
 
 pub clear_item-clear_node-requires : goal.clear_item-clear_node-requires
-clear_item-clear_node-requires t c = (omega (arith, depth_within c.args.list.now c.loop-i.i (tree_of c.item.result.now) c.item.ensures, c.decreases), tt)
+clear_item-clear_node-requires t c = (omega (arith, depth_within c.args.list.now c.loop-i.i (tree_of c.item.result.now) c.item.ensures, c.decreases), leads_on c.args.body.now.rules.now c.args.pointer.now c.push_name.new.pointer c.as_str-token.result.now c.args.covering c.enter-inner.result c.requires c.enter-inner.ensures (c.in_ok-push_name.ensures ∙ ap (λ p. p ++ c.as_str-token.result.now ∷ []) c.loop-i.invariant.pointer))
 
 pub clear_item-loop-i-preserved : goal.clear_item-loop-i-preserved
 clear_item-loop-i-preserved t c =
@@ -46,7 +47,7 @@ clear_member-loop-i-init t c = record {
 
 pub clear_member-clear_node-requires : goal.clear_member-clear_node-requires
 clear_member-clear_node-requires t c =
-    (omega (arith, member_depth_within c.args.map.now c.loop-i.i c.entry.result.0.now (tree_of c.entry.result.1.now) c.entry.ensures, c.decreases), tt)
+    (omega (arith, member_depth_within c.args.map.now c.loop-i.i c.entry.result.0.now (tree_of c.entry.result.1.now) c.entry.ensures, c.decreases), leads_on c.args.body.now.rules.now c.args.pointer.now c.push_name.new.pointer c.as_str-token.result.now c.args.covering c.enter-inner.result c.requires c.enter-inner.ensures (c.in_ok-push_name.ensures ∙ ap (λ p. p ++ c.as_str-token.result.now ∷ []) c.loop-i.invariant.pointer))
 
 pub clear_member-loop-i-preserved : goal.clear_member-loop-i-preserved
 clear_member-loop-i-preserved t c =

@@ -5,7 +5,7 @@ use Rattle.sealing_check.proofs.FirstOfList.{first_here, first_later}
 use Rattle.sealing_check.proofs.parts.clear_segment.Goals as goal
 
 pub loop-i-preserved : goal.loop-i-preserved
-loop-i-preserved c = first_later part_view (segment_test c.args.rules.now) (segment_site c.args.rules.now) c.args.parts.now c.loop-i.i c.item.result.now _ c.item.ensures c.loop-i.invariant (sym c.is_segment_clear.ensures ∙ c.if-is_segment_clear.false)
+loop-i-preserved c = first_later part_view (segment_test c.args.sealed.now) (segment_site c.args.sealed.now) c.args.parts.now c.loop-i.i c.item.result.now _ c.item.ensures c.loop-i.invariant (sym c.is_segment_clear.ensures ∙ c.if-is_segment_clear.false)
 
 pub returns-then-is_segment_clear : goal.returns-then-is_segment_clear
-returns-then-is_segment_clear c = ap Some c.in_ok-address.ensures ∙ first_here part_view (segment_test c.args.rules.now) (segment_site c.args.rules.now) c.args.parts.now c.loop-i.i c.item.result.now _ c.item.ensures c.loop-i.invariant (sym c.is_segment_clear.ensures ∙ c.if-is_segment_clear.true)
+returns-then-is_segment_clear c = ap Some c.in_ok-address.ensures ∙ first_here part_view (segment_test c.args.sealed.now) (segment_site c.args.sealed.now) c.args.parts.now c.loop-i.i c.item.result.now _ c.item.ensures c.loop-i.invariant (sym c.is_segment_clear.ensures ∙ c.if-is_segment_clear.true)

@@ -1,5 +1,0 @@
-use Rattle.std.proofs.Common.{length, ◌-◌}
-use Rattle.message_rebuilding.proofs.body.+graft.Given as goal
-
-abbrev pub decreases-grafted : goal.decreases-grafted
-decreases-grafted l = length l.path.now - l.from
