@@ -29,7 +29,6 @@ impl Model for BlockReading {
     ghost use Rattle.spec_documents.specs.Tree.{Tree};
     ghost use Rattle.spec_messages.specs.Fault.{block_fault};
     ghost use Rattle.block_forms.specs.Kept.{ReadsParts};
-
     ghost use Rattle.spec_documents.specs.TreeCode.{tree_code};
     ghost use Rattle.std.specs.Coded.{coded×, coded_ℕ};
 

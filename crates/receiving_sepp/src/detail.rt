@@ -5,12 +5,10 @@ ghost use Rattle.enc_index.specs.Places.{place_view};
 ghost use Rattle.spec_exchange.specs.RebuildTexts as texts;
 ghost use Rattle.spec_exchange.specs.ReceivingRefusals as spec;
 ghost use Rattle.jwe_flat.specs.View.{misfit_view};
-ghost use Rattle.spec_messages.specs.Limits.{limit_name as name_of_limit};
-ghost use Rattle.block_forms.specs.Faults.{limit_view};
 ghost use Rattle.receiving_sepp.specs.Views.{fault_view, refused_view, why_view};
 
 use crate::refused::{RebuildWhy, Refused};
-use block_forms::{BlockWhy, LimitName};
+use block_forms::{BlockWhy, limit_name};
 use enc_index::Place;
 use json_ptr::pointer_text;
 use jwe_flat::CipherWhy;
@@ -26,20 +24,6 @@ fn cipher_name(why: CipherWhy) -> &'static str
         CipherWhy::Enc => "enc",
         CipherWhy::Zip => "zip",
         CipherWhy::Crit => "crit",
-    }
-}
-
-fn limit_name(limit: LimitName) -> &'static str
-    ensures { result.now ≡ name_of_limit (limit_view limit) }
-{
-    match limit {
-        LimitName::Headers => "headers",
-        LimitName::Payload => "payload",
-        LimitName::Values => "values",
-        LimitName::Block => "block",
-        LimitName::Wire => "wire",
-        LimitName::Alter => "alter",
-        LimitName::Records => "records",
     }
 }
 

@@ -1,10 +1,10 @@
 // The message of an opened document.
-ghost use Rattle.std.specs.Prelude.{◌≤◌, IfOk, length};
+ghost use Rattle.std.specs.Prelude.{◌≡◌, ◌≤◌, None, IfOk, MatchResult, length};
 ghost use Rattle.spec_documents.specs.Gives.{Gives};
 ghost use Rattle.spec_messages.specs.Message.{wanted};
 ghost use Rattle.spec_messages.specs.Fault.{block_fault as fault_of};
 ghost use Rattle.http_message.specs.Reading.{message_view};
-ghost use Rattle.block_forms.specs.Faults.{IsFault};
+ghost use Rattle.block_forms.specs.Faults.{Refuses};
 ghost use Rattle.spec_exchange.specs.Chain.{or_refused};
 ghost use Rattle.spec_exchange.specs.FirstFailed.{is_sealed, rebuilt};
 ghost use Rattle.spec_exchange.specs.Rebuilding as spec;
@@ -16,13 +16,12 @@ ghost use Rattle.receiving_sepp.specs.Views.{rebuilt_view, revealed_view};
 
 use crate::faults::CheckFault;
 use crate::refused::{RebuildWhy, Refused};
-use block_forms::{BlockWhy, block_fault};
+use block_forms::{BlockRead, BlockReading, values_are_few};
 use http_message::Message;
-use message_rebuilding::{RebuildFault, clear_message, fill_message, values_are_few};
-use n32_values::{Doc, NoMemory, NodeList};
+use message_rebuilding::{RebuildFault, fill_message};
+use n32_values::{Doc, NodeList};
 use policy_tables::{Policy, mapping_for};
 use prins_document::{ValuesRead, read_values};
-use reformat_blocks::Block;
 use sealing_check::first_in_clear;
 use std::alloc::Global;
 
@@ -53,17 +52,18 @@ fn values_of(alloc: Global, plain: &[u8]) -> Result<NodeList, CheckFault>
     }
 }
 
-// The first fault of a document as a block with so many values. More values than 1,024 are too many, however
+// Reads the block that a document is with so many values. More values than 1,024 are too many, however
 // many they are.
 #[tactic(auto, using(crate::proofs::Counts::same_fault))]
-fn fault_with(alloc: Global, block: &Doc, count: usize) -> Result<Option<BlockWhy>, NoMemory>
-    ensures { IfOk result (λ why. IsFault why (fault_of block.now count)) }
+fn read_with(alloc: Global, block: Doc, count: usize) -> Result<BlockReading, BlockRead>
+    ensures { MatchResult result
+        (λ r. (r.0 ≡ block) × (fault_of block count ≡ None))
+        (λ why. Refuses why (fault_of block count)) }
 {
     if 1024 < count {
-        let why = block_fault(alloc, block, 1025)?;
-        return Ok(why);
+        return BlockReading::read(alloc, block, 1025);
     }
-    block_fault(alloc, block, count as u32)
+    BlockReading::read(alloc, block, count as u32)
 }
 
 // The message with holes that a block with the values stands for.
@@ -72,11 +72,14 @@ fn holed_message(alloc: Global, block: Doc, values: &NodeList) -> Result<Message
     ensures few { IfOk result (λ _. length values.now ≤ 1024) }
 {
     values_are_few();
-    if let Some(why) = fault_with(alloc, &block, values.len())? {
-        return Err(CheckFault::Refused(Refused::Reconstruction(RebuildWhy::Block(why))));
-    }
-    let block = Block::of_doc(block, values.len() as u32);
-    let message = clear_message(alloc, &block)?;
+    let reading = match read_with(alloc, block, values.len()) {
+        Ok(reading) => reading,
+        Err(BlockRead::Refused(why)) => {
+            return Err(CheckFault::Refused(Refused::Reconstruction(RebuildWhy::Block(why))));
+        }
+        Err(BlockRead::NoMemory) => return Err(CheckFault::NoMemory),
+    };
+    let message = reading.into_message(alloc)?;
     Ok(message)
 }
 

@@ -6,9 +6,9 @@ ghost use Rattle.http_message.specs.Reading.{member_view};
 ghost use Rattle.script_lines.specs.View.{refusal_view};
 
 use crate::refusal::Refusal;
+use block_forms::limit_name;
 use http_message::MessageMember;
 use n32_values::{NoMemory, Text};
-use sending_sepp::limit_name;
 use std::alloc::Global;
 
 // A member's name, or `message` where the document is no object.

@@ -1,11 +1,9 @@
 // Why a message isn't sent, and what stops a call: a refusal, a fault of the outside, or want of memory.
 ghost use Rattle.std.specs.Prelude.{◌≡◌, IfOk};
-ghost use Rattle.spec_messages.specs.Limits as limits;
 ghost use Rattle.spec_exchange.specs.SendingRefusals as spec;
-ghost use Rattle.block_forms.specs.Faults.{limit_view};
 ghost use Rattle.sending_sepp.specs.Sending.{refusal_view};
 
-use block_forms::LimitName;
+use block_forms::{LimitName, limit_name};
 use context_store::OpenFault;
 use n32_values::{NoMemory, Text};
 use std::alloc::Global;
@@ -43,21 +41,6 @@ pub enum ProtectFault {
     Keeper,
     /// Memory was refused.
     NoMemory,
-}
-
-/// The name of what there is too much of, in an answer.
-pub fn limit_name(limit: LimitName) -> &'static str
-    ensures { result.now ≡ limits.limit_name (limit_view limit) }
-{
-    match limit {
-        LimitName::Headers => "headers",
-        LimitName::Payload => "payload",
-        LimitName::Values => "values",
-        LimitName::Block => "block",
-        LimitName::Wire => "wire",
-        LimitName::Alter => "alter",
-        LimitName::Records => "records",
-    }
 }
 
 impl SendFault {

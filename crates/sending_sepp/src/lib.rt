@@ -10,5 +10,5 @@ mod sealing;
 mod sending;
 mod splitting;
 
-pub use fault::{ProtectFault, SendFault, limit_name};
+pub use fault::{ProtectFault, SendFault};
 pub use sending::protect;
