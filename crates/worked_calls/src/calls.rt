@@ -2,8 +2,8 @@
 use crate::args::Args;
 use crate::given::Given;
 use crate::{
-    blocks, changes, ciphers, differences, holes, jwes, messages, pointers, policies, records,
-    sealing, texts, values, wires,
+    blocks, changes, ciphers, differences, holes, jwes, messages, patches, pointers, policies,
+    records, sealing, texts, values, wires,
 };
 use n32_values::Node;
 use std::alloc::Global;
@@ -32,6 +32,10 @@ pub fn answer_call(alloc: Global, name: &str, args: Args<'_>, given: &Given) -> 
         "pointer_text" => pointers::pointer_text_call(alloc, args),
         "is_prefix" => pointers::is_prefix_call(given),
         "find" => pointers::find_call(alloc, args, given),
+        "read_ops" => patches::read_ops_call(alloc, args),
+        "ops_count" => patches::ops_count_call(given),
+        "apply" => patches::apply_call(alloc, args, given),
+        "apply_depth" => patches::apply_depth_call(alloc, args, given),
         "places" => holes::places_call(alloc, args, given),
         "fill" => holes::fill_call(alloc, args, given),
         "has_hole_spelling" => holes::has_hole_spelling_call(args),

@@ -3,6 +3,7 @@
 use crate::args::Args;
 use crate::parts::text_of_parts;
 use http_message::{Form, Head, HeaderList, Message, Request, read_head, read_headers};
+use json_patch6902::{OpList, read_ops};
 use json_ptr::{Pointer, read_pointer};
 use n32_values::{Bytes, Doc, Node, NodeMap, Text, copy_doc};
 use policy_tables::{Address, LinePart, Policy, read_policy};
@@ -22,6 +23,7 @@ pub struct Given {
     pub pointer: Option<Pointer>,
     /// `whole`, a second pointer.
     pub whole: Option<Pointer>,
+    pub operations: Option<OpList>,
     pub block: Option<Doc>,
     /// `wire`, the document of a wire.
     pub wire: Option<Doc>,
@@ -78,6 +80,10 @@ fn pointer_in(alloc: Global, node: Option<&Node>) -> Option<Pointer> {
         Some(Node::Words(text)) => read_pointer(alloc, text.as_str()).ok(),
         _ => None,
     }
+}
+
+fn operations_in(alloc: Global, node: Option<&Node>) -> Option<OpList> {
+    read_ops(alloc, node?).ok()
 }
 
 fn text_in(alloc: Global, node: Option<&Node>) -> Option<Text> {
@@ -143,6 +149,7 @@ pub fn read_given(alloc: Global, args: Args<'_>) -> Given {
         address: address_in(alloc, args.row.get("address")),
         pointer: pointer_in(alloc, args.row.get("pointer")),
         whole: pointer_in(alloc, args.row.get("whole")),
+        operations: operations_in(alloc, args.document("operations")),
         block: body_in(alloc, args.document("block")),
         wire: body_in(alloc, args.document("wire")),
         ipx: text_in(alloc, args.row.get("ipx")),

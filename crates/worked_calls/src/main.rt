@@ -21,6 +21,7 @@ mod keys;
 mod messages;
 mod nodes;
 mod parts;
+mod patches;
 mod pointers;
 mod policies;
 mod records;
