@@ -1,5 +1,5 @@
 -- The entry with a signature is that of a function which signs so.
-use Rattle.std.proofs.Common.{◌≡◌, ℕ, List, Option, Some, None, Ok, refl, sym, ap, ◌∙◌}
+use Rattle.std.proofs.Common.{◌≡◌, ℕ, List, Option, Some, None, Ok, refl, ap, ◌∙◌}
 use Rattle.spec_documents.specs.Tree.{Tree}
 use Rattle.spec_sealing.specs.Entries.{entry_input, entry_tree}
 use Rattle.n32_outside.specs.Meanings.{Signs}

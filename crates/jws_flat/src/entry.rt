@@ -2,7 +2,7 @@
 
 ghost use Rattle.std.specs.Prelude.{◌≡◌, ◌≤◌, Some, codes};
 ghost use Rattle.spec_documents.specs.Gives.{Gives};
-ghost use Rattle.spec_documents.specs.Tree.{members, get_member, drop_member, depth as nesting};
+ghost use Rattle.spec_documents.specs.Tree.{members, get_member, depth as nesting};
 ghost use Rattle.spec_messages.specs.Message.{text_at, wanted};
 ghost use Rattle.n32_values.specs.View.{tree_of};
 ghost use Rattle.spec_sealing.specs.Entries as spec;
@@ -28,6 +28,7 @@ pub struct Entry {
 }
 
 // Null and an empty list are no operations.
+#[tactic(auto, using(crate::proofs::Operations::empty_list))]
 fn changes_nothing(operations: &Node) -> bool
     ensures { result ≡ changes_nothing (tree_of operations.now) }
 {
@@ -38,6 +39,7 @@ fn changes_nothing(operations: &Node) -> bool
     }
 }
 
+#[tactic(auto, using(crate::proofs::Operations::operations_read))]
 fn read_operations(alloc: Global, node: Node) -> Result<Option<Doc>, JwsRead>
     requires { nesting (tree_of node) ≤ 127 }
     ensures { Gives member_told (λ o. o) result (wanted (spec.operations_in (Some (tree_of node))) (codes "operations")) }
@@ -52,11 +54,12 @@ fn read_operations(alloc: Global, node: Node) -> Result<Option<Doc>, JwsRead>
     }
 }
 
-// Takes `operations` out of a payload.
+// Takes `operations` out of a payload, which keeps its `tag`.
+#[tactic(auto, using(crate::proofs::Operations::tag_stays, crate::proofs::Operations::taken_shallow))]
 fn take_operations(alloc: Global, map: &mut NodeMap) -> Result<Option<Doc>, JwsRead>
     requires { nesting (members map.old) ≤ 127 }
     ensures operations { Gives member_told (λ o. o) result (wanted (spec.operations_in (get_member (codes "operations") map.old)) (codes "operations")) }
-    ensures rest { map.new ≡ drop_member (codes "operations") map.old }
+    ensures tag { get_member (codes "tag") map.new ≡ get_member (codes "tag") map.old }
 {
     match map.take("operations") {
         Some(node) => read_operations(alloc, node),

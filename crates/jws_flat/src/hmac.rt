@@ -39,10 +39,10 @@ pub fn hmac_sha256(key: &[u8], input: &[u8]) -> [u8; 32]
     ensures { result ≡ spec.hmac key.now input.now }
 {
     let mut inner = Sha256::new();
-    inner.update(&padded(INNER_PAD, key));
+    inner.update(padded(INNER_PAD, key));
     inner.update(input);
     let mut outer = Sha256::new();
-    outer.update(&padded(OUTER_PAD, key));
-    outer.update(&inner.finalize());
+    outer.update(padded(OUTER_PAD, key));
+    outer.update(inner.finalize());
     outer.finalize()
 }

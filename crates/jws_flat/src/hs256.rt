@@ -86,6 +86,9 @@ impl Verifier for Hs256 {
         input: &[u8],
         signature: &[u8],
     ) -> Result<bool, OutFault> {
-        Ok(alg == JwsAlg::Hs256 && signature == self.signature(identity, input).as_slice())
+        match alg {
+            JwsAlg::Hs256 => Ok(signature == self.signature(identity, input).as_slice()),
+            JwsAlg::Es256 => Ok(false),
+        }
     }
 }

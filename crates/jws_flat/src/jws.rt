@@ -1,6 +1,6 @@
 //! A JWS, and what is signed of it.
 
-ghost use Rattle.std.specs.Prelude.{◌≡◌, IfOk, codes, option_and_then};
+ghost use Rattle.std.specs.Prelude.{◌≡◌, IfOk, codes};
 ghost use Rattle.spec_documents.specs.Gives.{Gives};
 ghost use Rattle.spec_messages.specs.Message.{any_text, text_at, wanted};
 ghost use Rattle.n32_values.specs.View.{tree_of};

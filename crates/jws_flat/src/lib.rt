@@ -7,6 +7,7 @@ mod entry;
 mod hmac;
 mod hs256;
 mod jws;
+pub mod laws;
 mod members;
 mod sign;
 mod verify;

@@ -1,0 +1,58 @@
+-- How deep a document is with an entry more.
+use Rattle.std.proofs.Common.{◌≡◌, ℕ, suc, ◌≤◌, List, [], ◌∷◌, ◌++◌, Option, Some, None, Ordering, Less, Equal, Greater, max, refl, ap, subst, sym, codes, arith}
+use Rattle.std.specs.Prelude.{unwrap_or}
+use Rattle.std.specs.Ordering.{match_ordering}
+use Rattle.spec_documents.specs.Tree.{Tree, null, truth, whole, words, items, members, Members, no_members, member, trees, tree_list, items_in, name_cmp, get_member, put_member, depth, items_depth, members_depth}
+use Rattle.spec_documents.proofs.FieldLemmas.{trees-list}
+use Rattle.spec_documents.proofs.TreeLemmas.{got_low}
+use Rattle.spec_messages.specs.Block.{members_of}
+use Rattle.n32_values.proofs.Trees.{items_depth-push}
+use Rattle.n32_outside.specs.declared.algorithm.JwsAlg.{JwsAlg}
+use Rattle.prins_document.specs.View.{entries_of}
+use Rattle.spec_sealing.specs.Passing.{with_entry}
+use Rattle.jws_flat.specs.Signing.{IsSigned}
+
+put_step : (k l : List ℕ) (u w : Tree) (ms : Members) (o : Ordering) → members_depth (put_member k u ms) ≤ max (depth u) (members_depth ms)
+    → members_depth (match_ordering o (member k u (member l w ms)) (member l u ms) (member l w (put_member k u ms))) ≤ max (depth u) (members_depth (member l w ms))
+put_step k l u w ms Less h = omega arith
+put_step k l u w ms Equal h = omega arith
+put_step k l u w ms Greater h = omega (arith, h)
+
+put_depth : (k : List ℕ) (u : Tree) (ms : Members) → members_depth (put_member k u ms) ≤ max (depth u) (members_depth ms)
+put_depth k u no_members = omega arith
+put_depth k u (member l w ms) = put_step k l u w ms (name_cmp k l) (put_depth k u ms)
+
+-- the items at a name of an object
+items_step : (k : List ℕ) (ms : Members) (o : Option Tree) → get_member k ms ≡ o → items_depth (trees (unwrap_or (items_in o) [])) ≤ members_depth ms
+items_step k ms None e = omega arith
+items_step k ms (Some null) e = omega arith
+items_step k ms (Some (truth b)) e = omega arith
+items_step k ms (Some (whole z)) e = omega arith
+items_step k ms (Some (words s)) e = omega arith
+items_step k ms (Some (items ts)) e =
+    let low : depth (items ts) ≤ members_depth ms = got_low k (items ts) ms e in
+    let same : items_depth (trees (tree_list ts)) ≡ items_depth ts = ap items_depth (trees-list ts) in
+    omega arith
+items_step k ms (Some (members ns)) e = omega arith
+
+members_step : (t : Tree) → suc (members_depth (members_of t)) ≤ max (depth t) 1
+members_step null = omega arith
+members_step (truth b) = omega arith
+members_step (whole z) = omega arith
+members_step (words s) = omega arith
+members_step (items ts) = omega arith
+members_step (members ms) = omega arith
+
+pub entry_depth : (t e : Tree) → depth e ≤ 1 → depth (with_entry t (unwrap_or (entries_of t) []) e) ≤ max (depth t) 3
+entry_depth t e shallow =
+    let k : List ℕ = codes "modificationsBlock" in
+    let ms : Members = members_of t in
+    let xs : List Tree = unwrap_or (entries_of t) [] in
+    let push : items_depth (trees (xs ++ e ∷ [])) ≡ max (items_depth (trees xs)) (depth e) = items_depth-push xs e in
+    let put : members_depth (put_member k (items (trees (xs ++ e ∷ []))) ms) ≤ max (depth (items (trees (xs ++ e ∷ [])))) (members_depth ms) = put_depth k (items (trees (xs ++ e ∷ []))) ms in
+    let low : items_depth (trees xs) ≤ members_depth ms = items_step k ms (get_member k ms) refl in
+    let root : suc (members_depth ms) ≤ max (depth t) 1 = members_step t in
+    omega arith
+
+pub signed_depth : (meaning : Option (JwsAlg → List ℕ → List ℕ → List ℕ)) (alg : JwsAlg) (identity : List ℕ) (operations : Tree) (tag : List ℕ) (e : Tree) → IsSigned meaning alg identity operations tag e → depth e ≤ 1
+signed_depth meaning alg identity operations tag e signed = subst (λ n. depth n ≤ 1) (sym signed.entry) (omega arith)
