@@ -43,16 +43,17 @@ members_step (words s) = omega arith
 members_step (items ts) = omega arith
 members_step (members ms) = omega arith
 
+deep_step : (k : List ℕ) (ms : Members) (xs : List Tree) (e : Tree) (d : ℕ) → depth e ≤ 1 → suc (members_depth ms) ≤ max d 1 → items_depth (trees xs) ≤ members_depth ms
+    → suc (members_depth (put_member k (items (trees (xs ++ e ∷ []))) ms)) ≤ max d 3
+deep_step k ms xs e d shallow root low =
+    let push : items_depth (trees (xs ++ e ∷ [])) ≡ max (items_depth (trees xs)) (depth e) = items_depth-push xs e in
+    let put : members_depth (put_member k (items (trees (xs ++ e ∷ []))) ms) ≤ max (suc (items_depth (trees (xs ++ e ∷ [])))) (members_depth ms) = put_depth k (items (trees (xs ++ e ∷ []))) ms in
+    omega arith
+
 pub entry_depth : (t e : Tree) → depth e ≤ 1 → depth (with_entry t (unwrap_or (entries_of t) []) e) ≤ max (depth t) 3
 entry_depth t e shallow =
-    let k : List ℕ = codes "modificationsBlock" in
-    let ms : Members = members_of t in
-    let xs : List Tree = unwrap_or (entries_of t) [] in
-    let push : items_depth (trees (xs ++ e ∷ [])) ≡ max (items_depth (trees xs)) (depth e) = items_depth-push xs e in
-    let put : members_depth (put_member k (items (trees (xs ++ e ∷ []))) ms) ≤ max (depth (items (trees (xs ++ e ∷ [])))) (members_depth ms) = put_depth k (items (trees (xs ++ e ∷ []))) ms in
-    let low : items_depth (trees xs) ≤ members_depth ms = items_step k ms (get_member k ms) refl in
-    let root : suc (members_depth ms) ≤ max (depth t) 1 = members_step t in
-    omega arith
+    deep_step (codes "modificationsBlock") (members_of t) (unwrap_or (entries_of t) []) e (depth t) shallow (members_step t)
+    (items_step (codes "modificationsBlock") (members_of t) (get_member (codes "modificationsBlock") (members_of t)) refl)
 
 pub signed_depth : (meaning : Option (JwsAlg → List ℕ → List ℕ → List ℕ)) (alg : JwsAlg) (identity : List ℕ) (operations : Tree) (tag : List ℕ) (e : Tree) → IsSigned meaning alg identity operations tag e → depth e ≤ 1
 signed_depth meaning alg identity operations tag e signed = subst (λ n. depth n ≤ 1) (sym signed.entry) (omega arith)

@@ -1,6 +1,6 @@
 // An entry more in a copy of a document.
 ghost use Rattle.std.specs.Prelude.{◌≡◌, ◌≤◌, [], ◌∷◌, ◌++◌, IfOk, OnOk, codes, max, option_map, unwrap_or};
-ghost use Rattle.spec_documents.specs.Tree.{items, members, trees, get_member, put_member, items_in, depth as nesting};
+ghost use Rattle.spec_documents.specs.Tree.{null, items, members, trees, get_member, put_member, items_in, depth as nesting};
 ghost use Rattle.spec_messages.specs.Block.{members_of};
 ghost use Rattle.n32_values.specs.View.{tree_of};
 ghost use Rattle.prins_document.specs.View.{entries_of};
@@ -33,15 +33,24 @@ fn entries_in(alloc: Global, member: Option<Node>) -> NodeList
     }
 }
 
-// Puts an entry after the others. Until the list stands in the map again, null stands there.
-#[tactic(auto, using(crate::proofs::Putting::put_put))]
+// Takes out what stands at the entries' name, and leaves null there.
+fn set_aside(alloc: Global, map: &mut NodeMap) -> Result<Option<Node>, NoMemory>
+    ensures after { OnOk result (map.new ≡ put_member (codes "modificationsBlock") null map.old) }
+    ensures earlier { IfOk result (λ o. option_map tree_of o ≡ get_member (codes "modificationsBlock") map.old) }
+{
+    let name = Text::from_text(alloc, ENTRIES)?;
+    Ok(map.put(name, Node::Null)?)
+}
+
+// Puts an entry after the others.
 fn append(alloc: Global, map: &mut NodeMap, entry: Node) -> Result<(), NoMemory>
     ensures { OnOk result (map.new ≡ put_member (codes "modificationsBlock") (items (trees (unwrap_or (items_in (get_member (codes "modificationsBlock") map.old)) [] ++ tree_of entry ∷ []))) map.old) }
 {
-    let earlier = map.put(Text::from_text(alloc, ENTRIES)?, Node::Null)?;
+    let earlier = set_aside(alloc, map)?;
     let mut list = entries_in(alloc, earlier);
     list.push(entry)?;
-    put(alloc, map, ENTRIES, Node::Items(list))
+    put(alloc, map, ENTRIES, Node::Items(list))?;
+    Ok(())
 }
 
 /// A copy of a document with an entry more after those of `modificationsBlock`.

@@ -1,12 +1,11 @@
 // Passing a document on.
-ghost use Rattle.std.specs.Prelude.{◌≡◌, ◌≤◌, [], None, IfOk, IfErr, IsErrOf, IsOk, max, nat_le, length, unwrap_or};
+ghost use Rattle.std.specs.Prelude.{◌≡◌, ◌≤◌, [], None, Ok, IfOk, IfErr, IsErrOf, IsOk, max, nat_le, length, unwrap_or};
 ghost use Rattle.spec_documents.specs.Gives.{Gives};
 ghost use Rattle.spec_documents.specs.Tree.{depth as nesting};
 ghost use Rattle.n32_outside.specs.Causes.{Rose};
 ghost use Rattle.n32_values.specs.View.{tree_of};
-ghost use Rattle.prins_document.specs.View.{entries_of, wire_view};
+ghost use Rattle.prins_document.specs.View.{entries_of, part_told, wire_view};
 ghost use Rattle.spec_sealing.specs.Passing.{tag_text, with_room};
-ghost use Rattle.spec_sealing.specs.Received.{received};
 ghost use Rattle.jwe_flat.specs.View.{jwe_view};
 ghost use Rattle.jws_flat.specs.Signing.{IsSigned};
 ghost use Rattle.ipx_node.specs.Passes.{Passes, form_told};
@@ -51,16 +50,6 @@ impl From<NoMemory> for PassFault {
     }
 }
 
-fn read_parts(alloc: Global, doc: &Doc) -> Result<WireDoc, PassFault>
-    ensures { Gives form_told (wire_view doc.now) result (received doc.now) }
-{
-    match read_wire_doc(alloc, doc) {
-        Ok(wire) => Ok(wire),
-        Err(WireRead::Form(member)) => Err(PassFault::Form(member)),
-        Err(WireRead::NoMemory) => Err(PassFault::NoMemory),
-    }
-}
-
 // Whether two entries are there.
 fn is_full(doc: &Doc) -> bool
     ensures { result ≡ nat_le 2 (length (unwrap_or (entries_of doc.now) [])) }
@@ -73,12 +62,12 @@ fn is_full(doc: &Doc) -> bool
 
 // The parts of a document that has room for an entry.
 #[tactic(auto, unfolding(spec_documents::specs::Chain::chains))]
-fn read_with_room(alloc: Global, doc: &Doc) -> Result<WireDoc, PassFault>
-    ensures { Gives form_told (wire_view doc.now) result (with_room doc.now) }
+fn read_with_room(alloc: Global, doc: &Doc) -> Result<WireDoc, WireRead>
+    ensures { Gives part_told (wire_view doc.now) result (with_room doc.now) }
 {
-    let wire = read_parts(alloc, doc)?;
+    let wire = read_wire_doc(alloc, doc)?;
     if is_full(doc) {
-        return Err(PassFault::Form(WireMember::ModificationsBlock));
+        return Err(WireRead::Form(WireMember::ModificationsBlock));
     }
     Ok(wire)
 }
@@ -108,6 +97,28 @@ fn entry_for<G: Signer>(
     }
 }
 
+// Passes a document on that has room, and these parts.
+#[tactic(auto, using(crate::proofs::Passed::not_passed))]
+fn pass_read<G: Signer>(
+    alloc: Global,
+    doc: &Doc,
+    wire: WireDoc,
+    config: &IpxConfig,
+    signer: &mut G,
+) -> Result<Doc, PassFault>
+    requires room { with_room doc.now ≡ Ok (wire_view doc.now wire) }
+    requires shallow { nesting config.now.operations ≤ 126 }
+    ensures passes { Passes (G.meaning signer.old) (G.algorithm signer.old) config.now.identity config.now.operations doc.now result }
+    ensures depth { IfOk result (λ d. nesting d ≤ max (nesting doc.now) 3) }
+    ensures same_meaning { G.meaning signer.new ≡ G.meaning signer.old }
+    ensures same_algorithm { G.algorithm signer.new ≡ G.algorithm signer.old }
+    ensures later { G.faults signer.old ≤ G.faults signer.new }
+    ensures failed { IsErrOf result PassFault.Signer → Rose (G.faults signer.old) (G.faults signer.new) }
+{
+    let entry = entry_for(alloc, &wire.jwe, config, signer)?;
+    Ok(with_entry(alloc, doc, entry)?)
+}
+
 /// Passes a document on: a copy of it with one entry more after those of `modificationsBlock`, which is
 /// signed for the identity and bound to the tag of the document's JWE. All else is as it was. The
 /// operations are any document that nests at most 126 deep, so that the entry's payload is read again.
@@ -116,7 +127,7 @@ fn entry_for<G: Signer>(
 /// `Form` with the first part that has not its form, or `ModificationsBlock` where two entries are there,
 /// exactly where there is such a part. `Signer` only where the signer failed, over a document that has room
 /// for an entry. `NoMemory` where memory was refused.
-#[tactic(auto, using(crate::proofs::Passed::passed_on, crate::proofs::Passed::not_passed))]
+#[tactic(auto, using(crate::proofs::Passed::not_passed))]
 pub fn pass_on<G: Signer>(
     alloc: Global,
     doc: &Doc,
@@ -132,7 +143,9 @@ pub fn pass_on<G: Signer>(
     ensures failed { IsErrOf result PassFault.Signer → Rose (G.faults signer.old) (G.faults signer.new) }
     ensures asked { IsErrOf result PassFault.Signer → IsOk (with_room doc.now) }
 {
-    let wire = read_with_room(alloc, doc)?;
-    let entry = entry_for(alloc, &wire.jwe, config, signer)?;
-    Ok(with_entry(alloc, doc, entry)?)
+    match read_with_room(alloc, doc) {
+        Ok(wire) => pass_read(alloc, doc, wire, config, signer),
+        Err(WireRead::Form(member)) => Err(PassFault::Form(member)),
+        Err(WireRead::NoMemory) => Err(PassFault::NoMemory),
+    }
 }

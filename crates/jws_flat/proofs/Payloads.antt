@@ -31,9 +31,12 @@ is_read (Some text) p e = let parts = some_text (is_none (payload_in text)) text
 same_payload : (r : Result Jws (List ℕ)) (x y : Jws) → r ≡ Ok x → r ≡ Ok y → x.payload ≡ y.payload
 same_payload r x y e f = let is : x ≡ y = cc in ap (λ w. w.payload) is
 
+abbrev refused : Result Entry (List ℕ)
+refused = Err (codes "payload")
+
 -- what else may refuse an entry
 later : (i : Option (List ℕ)) (o : Option (Option Tree)) (g : Option (List ℕ)) → (wanted i (codes "identity") >>= λ identity. wanted o (codes "operations") >>= λ operations. wanted g (codes "tag") >>= λ tag. Ok (record { identity = identity; operations = operations; tag = tag }))
-    ≢ Err {A = Entry} (codes "payload")
+    ≢ refused
 unfolding ◌>>=◌
 later None o g e = cc
 later (Some i) None g e = cc
@@ -44,7 +47,7 @@ of_object : (found : Option Members) → is_none found ≡ false → (wanted fou
     wanted (text_at is_identity (codes "identity") ms) (codes "identity") >>= λ identity.
     wanted (operations_in (get_member (codes "operations") ms)) (codes "operations") >>= λ operations.
     wanted (text_at any_text (codes "tag") ms) (codes "tag") >>= λ tag.
-    Ok (record { identity = identity; operations = operations; tag = tag })) ≢ Err {A = Entry} (codes "payload")
+    Ok (record { identity = identity; operations = operations; tag = tag })) ≢ refused
 unfolding ◌>>=◌
 of_object None e = cc
 of_object (Some ms) e = later (text_at is_identity (codes "identity") ms) (operations_in (get_member (codes "operations") ms)) (text_at any_text (codes "tag") ms)
