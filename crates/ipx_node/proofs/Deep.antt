@@ -23,7 +23,7 @@ put_depth k u no_members = omega arith
 put_depth k u (member l w ms) = put_step k l u w ms (name_cmp k l) (put_depth k u ms)
 
 -- the items at a name of an object
-items_step : (k : List ℕ) (ms : Members) (o : Option Tree) → get_member k ms ≡ o → items_depth (trees (unwrap_or (items_in o) [])) ≤ members_depth ms
+items_step : (k : List ℕ) (ms : Members) (o : Option Tree) → get_member k ms ≡ o → suc (items_depth (trees (unwrap_or (items_in o) []))) ≤ max (members_depth ms) 1
 items_step k ms None e = omega arith
 items_step k ms (Some null) e = omega arith
 items_step k ms (Some (truth b)) e = omega arith
@@ -43,7 +43,7 @@ members_step (words s) = omega arith
 members_step (items ts) = omega arith
 members_step (members ms) = omega arith
 
-deep_step : (k : List ℕ) (ms : Members) (xs : List Tree) (e : Tree) (d : ℕ) → depth e ≤ 1 → suc (members_depth ms) ≤ max d 1 → items_depth (trees xs) ≤ members_depth ms
+deep_step : (k : List ℕ) (ms : Members) (xs : List Tree) (e : Tree) (d : ℕ) → depth e ≤ 1 → suc (members_depth ms) ≤ max d 1 → suc (items_depth (trees xs)) ≤ max (members_depth ms) 1
     → suc (members_depth (put_member k (items (trees (xs ++ e ∷ []))) ms)) ≤ max d 3
 deep_step k ms xs e d shallow root low =
     let push : items_depth (trees (xs ++ e ∷ [])) ≡ max (items_depth (trees xs)) (depth e) = items_depth-push xs e in
