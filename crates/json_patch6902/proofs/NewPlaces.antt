@@ -7,6 +7,8 @@ use Rattle.spec_documents.specs.Tree.{Tree, items, trees, insert_item, count_ite
 use Rattle.spec_documents.specs.Place.{Pointer, Cause, no_place, bad_index, found, ◌>>=◌, is_index, index_number, is_dash, no_item, child, at, with, front, last}
 use Rattle.spec_documents.specs.Patch.{child_added, added}
 use Rattle.spec_documents.proofs.FieldLemmas.{count_items-trees, get_item-trees, insert_item-trees}
+use Rattle.n32_values.proofs.Trees.{drop_at}
+use Rattle.json_ptr.proofs.Walks.{find_step}
 use Rattle.json_patch6902.specs.declared.fault.EditFault.{EditFault}
 use Rattle.json_patch6902.specs.declared.fault.EditFault.TheVariants.{Cause as because, NoMemory}
 use Rattle.json_patch6902.specs.Faults.{cause_view}
@@ -36,11 +38,11 @@ number_is : (n i top len : ℕ) → i ≡ min n top → i ≤ len → len < top 
 number_is n i top len num low fits = omega arith
 
 pub index_place : (x : List ℕ) (ts : List Tree) (i top : ℕ) → is_dash x ≡ false → is_index x ≡ true → i ≡ min (index_number x) top → i ≤ length ts → length ts < top → GoesInAt x ts i
-index_place x ts i top no on num low fits =
+index_place x ts i top other on num low fits =
     let same = number_is (index_number x) i top (length ts) num low fits in
     let room : nat_le (index_number x) (count_items (trees ts)) ≡ true = le-leb (index_number x) (count_items (trees ts)) (omega (arith, count_items-trees ts)) in record {
       within = low;
-      becomes = λ v. chosen_item (is_dash x) (is_index x) (nat_le (index_number x) (count_items (trees ts))) _ _ _ no on room
+      becomes = λ v. chosen_item (is_dash x) (is_index x) (nat_le (index_number x) (count_items (trees ts))) _ _ _ other on room
           ∙ ap (λ us. Ok (items us)) (ap (λ n. insert_item n v (trees ts)) same ∙ insert_item-trees i v ts);
     }
 
@@ -64,9 +66,9 @@ cause_other true d e f = cc
 cause_other false true e f = cc
 
 pub past_place : (x : List ℕ) (ts : List Tree) (i top : ℕ) → is_dash x ≡ false → is_index x ≡ true → i ≡ min (index_number x) top → length ts < i → (v : Tree) → child_added x v (items (trees ts)) ≡ Err no_place
-past_place x ts i top no on num high = λ v.
+past_place x ts i top other on num high = λ v.
     let past : nat_le (index_number x) (count_items (trees ts)) ≡ false = lt-leb (index_number x) (count_items (trees ts)) (omega (arith, count_items-trees ts)) in
-    other_item (is_dash x) (is_index x) (nat_le (index_number x) (count_items (trees ts))) _ _ _ no (and_false (is_index x) _ past)
+    other_item (is_dash x) (is_index x) (nat_le (index_number x) (count_items (trees ts))) _ _ _ other (and_false (is_index x) _ past)
     ∙ ap (λ why. Err why) (cause_index (is_index x) (is_dash x) on)
 
 first_false : (b c : Bool) → b ≡ false → (b && c) ≡ false
@@ -74,9 +76,9 @@ first_false false c e = refl
 first_false true c e = cc
 
 pub other_place : (x : List ℕ) (ts : List Tree) → is_dash x ≡ false → is_index x ≡ false → (v : Tree) → child_added x v (items (trees ts)) ≡ Err bad_index
-other_place x ts no off = λ v.
-    other_item (is_dash x) (is_index x) (nat_le (index_number x) (count_items (trees ts))) _ _ _ no (first_false (is_index x) _ off)
-    ∙ ap (λ why. Err why) (cause_other (is_index x) (is_dash x) off no)
+other_place x ts other off = λ v.
+    other_item (is_dash x) (is_index x) (nat_le (index_number x) (count_items (trees ts))) _ _ _ other (first_false (is_index x) _ off)
+    ∙ ap (λ why. Err why) (cause_other (is_index x) (is_dash x) off other)
 
 pub place_takes : (x : List ℕ) (ts : List Tree) (i : ℕ) → GoesInAt x ts i → (v : Tree) → (w : Tree) × (child_added x v (items (trees ts)) ≡ Ok w)
 place_takes x ts i h = λ v. (items (trees (insert ts i v)), h.becomes v)
@@ -106,6 +108,13 @@ drop_past [] zero le = refl
 drop_past [] (suc i) le = refl
 drop_past (x ∷ xs) zero le = absurd (omega arith)
 drop_past (x ∷ xs) (suc i) le = drop_past xs i (omega arith)
+
+-- the walk, one token further
+pub front_step : (t c : Tree) (p : Pointer) (i : ℕ) (x : List ℕ) (out : Result Tree Cause) → slice_get p i ≡ Some x → i + 1 < length p → child x t ≡ Ok c → at t (drop i (front p)) ≡ out → at c (drop (i + 1) (front p)) ≡ out
+front_step t c p i x out is h there e = find_step t c (front p) i x out (get_front p i x is h) there e
+
+pub front_refused : (t : Tree) (p : Pointer) (i : ℕ) (x : List ℕ) (why : Cause) (out : Result Tree Cause) → slice_get p i ≡ Some x → i + 1 < length p → child x t ≡ Err why → at t (drop i (front p)) ≡ out → out ≡ Err why
+front_refused t p i x why out is h none e = sym e ∙ ap (at t) (drop_at (front p) i x (get_front p i x is h)) ∙ rw none refl
 
 -- the walk's end
 pub parent_done : (p : Pointer) (i : ℕ) (u : Tree) (out : Result Tree Cause) → length p - 1 ≤ i → at u (drop i (front p)) ≡ out → out ≡ Ok u

@@ -1,17 +1,17 @@
 -- What the operations come to, by their parts.
-use Rattle.std.proofs.Common.{◌≡◌, ℕ, zero, suc, ◌+◌, ◌<◌, ◌≤◌, max, List, [], ◌∷◌, length, Bool, true, false, ◌&&◌, Result, Ok, Err, refl, sym, ap, ◌∙◌, subst, if◌then◌else◌, arith}
-use Rattle.std.proofs.lemmas.Bool.{le-leb, lt-leb, leb-true}
+use Rattle.std.proofs.Common.{◌≡◌, ℕ, zero, suc, ◌+◌, ◌<◌, ◌≤◌, max, List, [], ◌∷◌, length, Bool, true, false, ◌&&◌, Result, Ok, Err, refl, sym, ap, ◌∙◌, subst, ⊎_elim, if◌then◌else◌, arith}
+use Rattle.std.proofs.lemmas.Bool.{le-leb, lt-leb, leb-true, ltb-true, lt-ltb, cases_lt}
 use Rattle.std.proofs.lemmas.Bool.Decides.{Decides-int_eq}
 use Rattle.std.proofs.lemmas.Slice.Eq.{bytes_eq-Decides}
-use Rattle.std.specs.Prelude.{⊤, nat_le, nat_lt, bytes_eq}
+use Rattle.std.specs.Prelude.{⊤, IsTrue, ◌↔◌, nat_le, nat_lt, bytes_eq}
 use Rattle.std.specs.Ordering.{int_eq}
 use Rattle.spec_documents.specs.Tree.{Tree, null, truth, whole, words, items, members, Trees, no_items, item, Members, no_members, member, depth, is_tree, same_truth, same_tree, same_items, same_members}
-use Rattle.spec_documents.specs.Place.{Pointer, Cause, no_place, test_failed, into_itself, too_deep, ◌>>=◌, at, with, is_prefix, is_beneath}
+use Rattle.spec_documents.specs.Place.{Pointer, Cause, no_place, test_failed, into_itself, too_deep, ◌>>=◌, child, at, with, is_prefix, is_beneath}
 use Rattle.spec_documents.specs.Patch as spec
 use Rattle.spec_documents.specs.Patch.{added, removed, edited, within_depth, patched}
 use Rattle.spec_documents.proofs.TreeLemmas.{bind_ok}
 use Rattle.spec_documents.proofs.EditLemmas.{edit, adding, taking, replacing, added-edit, removed-edit, replaced-edit}
-use Rattle.json_patch6902.specs.Edits.{CanBeAdded, IsDoc}
+use Rattle.json_patch6902.specs.Edits.{CanBeAdded, IsDoc, HoldsTree, replaced}
 use Rattle.json_patch6902.proofs.DepthLemmas.{added-depth, added-deep, removed-depth, replaced-depth, replaced-deep}
 use Rattle.json_patch6902.proofs.TreesKept.{added-tree, removed-tree, replaced-tree, at-tree}
 use Rattle.json_patch6902.proofs.PutBack.{put-back}
@@ -42,6 +42,19 @@ patched_shallow t w op e =
     let h = bind_ok (edited op t) within_depth w e in
     low (depth w) (within_by (nat_le (depth h.0) 127) h.0 w refl h.2).1
 
+pub deeper : (a b : ℕ) → nat_lt a b ≡ true → a < b
+deeper a b h = ltb-true a b h
+
+pub no_deeper : (a b : ℕ) → nat_lt a b ≡ false → b ≤ a
+no_deeper a b h = ⊎_elim (λ (lt : a < b). let both : true ≡ false = sym (lt-ltb a b lt) ∙ h in cc) (λ (le : b ≤ a). le) (cases_lt a b)
+
+pub not_less : (a b : ℕ) → b ≤ a → nat_lt a b ≡ false
+not_less a b h = by (nat_lt a b) refl
+  where
+    by : (r : Bool) → nat_lt a b ≡ r → nat_lt a b ≡ false
+    by false e = e
+    by true e = let less : a < b = ltb-true a b e in absurd (omega arith)
+
 -- ---- what is added
 
 -- what was found to fit is added
@@ -66,17 +79,21 @@ pub added_is : (p : Pointer) (v t : Tree) → 0 < length p → added p v t ≡ e
 added_is [] v t h = absurd (omega arith)
 added_is (x ∷ p) v t h = added-edit x p v t
 
-pub removed_is : (p : Pointer) (t : Tree) → 0 < length p → removed p t ≡ edit taking p t
-removed_is [] t h = absurd (omega arith)
-removed_is (x ∷ p) t h = removed-edit x p t
+pub removed_is : (p : Pointer) (t : Tree) → removed p t ≡ edit taking p t
+removed_is [] t = refl
+removed_is (x ∷ p) t = removed-edit x p t
 
 pub replaced_is : (p : Pointer) (v t : Tree) → 0 < length p → (at t p >>= λ u. Ok (with t p v)) ≡ edit (replacing v) p t
 replaced_is [] v t h = absurd (omega arith)
 replaced_is (x ∷ p) v t h = replaced-edit x p v t
 
-pub some_token : (p : Pointer) → (p ≡ [] → ⊥) → 0 < length p
-some_token [] h = absurd (h refl)
-some_token (x ∷ p) h = omega arith
+-- what the test for no token says
+pub no_token : (b : Bool) (p : Pointer) → (IsTrue b ↔ (p ≡ [])) → b ≡ true → p ≡ []
+no_token b p h e = h.0 e
+
+pub some_token : (b : Bool) (p : Pointer) → (IsTrue b ↔ (p ≡ [])) → b ≡ false → 0 < length p
+some_token b [] h e = let both : true ≡ false = sym (h.1 refl) ∙ e in cc
+some_token b (x ∷ p) h e = omega arith
 
 -- ---- what is removed
 
@@ -84,9 +101,6 @@ pub removed_fits : (p : Pointer) (t w : Tree) → IsDoc t → removed p t ≡ Ok
 removed_fits p t w doc e = ap (λ r. r >>= within_depth) e ∙ within_ok w (omega (arith, removed-depth p t w e, doc.shallow))
 
 -- ---- what is replaced
-
-abbrev pub replaced : Pointer → Tree → Tree → Result Tree Cause
-replaced p v t = at t p >>= λ u. Ok (with t p v)
 
 replaced-low : (p : Pointer) (v t w : Tree) → replaced p v t ≡ Ok w → depth w ≤ max (depth t) (length p + depth v)
 replaced-low [] v t w e = let same : v ≡ w = cc in omega (arith, ap depth same)
@@ -130,6 +144,31 @@ beneath_long (x ∷ p) (y ∷ q) h = ap (λ b. bytes_eq x y && b) (beneath_long 
 pub moved : (from p : Pointer) (t u w : Tree) → is_beneath from p ≡ false → at t from ≡ Ok u → removed from t ≡ Ok w → edited (spec.move from p) t ≡ added p u w
 moved from p t u w o a e = rw (o, a, e) refl
 
+-- what isn't there isn't taken out, for the same cause
+none_last : (x : List ℕ) (t : Tree) (r : Result Tree Cause) (why : Cause) → child x t ≡ r → (r >>= λ u. Ok u) ≡ Err why → taking x t ≡ Err why
+none_last x t (Ok c) why e h = cc
+none_last x t (Err w) why e h = rw e h
+
+none_under : (x y : List ℕ) (p : Pointer) (t : Tree) (r : Result Tree Cause) (why : Cause) → child x t ≡ r → (r >>= λ c. at c (y ∷ p)) ≡ Err why
+    → ((c : Tree) → at c (y ∷ p) ≡ Err why → edit taking (y ∷ p) c ≡ Err why) → edit taking (x ∷ y ∷ p) t ≡ Err why
+none_under x y p t (Ok c) why e h more = rw (e, more c h) refl
+none_under x y p t (Err w) why e h more = rw e h
+
+none_taken : (p : Pointer) (t : Tree) (why : Cause) → at t p ≡ Err why → edit taking p t ≡ Err why
+none_taken [] t why h = cc
+none_taken (x ∷ []) t why h = none_last x t (child x t) why refl h
+none_taken (x ∷ y ∷ p) t why h = none_under x y p t (child x t) why refl h (λ c e. none_taken (y ∷ p) c why e)
+
+no_move_by : (from p : Pointer) (t : Tree) (why : Cause) (r : Result Tree Cause) → at t from ≡ r → is_beneath from p ≡ false → removed from t ≡ Err why → edited (spec.move from p) t ≡ Err why
+no_move_by from p t why (Ok u) a o e = rw (o, a, e) refl
+no_move_by from p t why (Err w) a o e =
+    let same : ◌≡◌ {A = Result Tree Cause} (Err w) (Err why) = sym (removed_is from t ∙ none_taken from t w a) ∙ e in
+    rw (o, a) same
+
+-- a move of what can't be taken out
+pub no_move : (from p : Pointer) (t : Tree) (why : Cause) → is_beneath from p ≡ false → removed from t ≡ Err why → edited (spec.move from p) t ≡ Err why
+no_move from p t why o e = no_move_by from p t why (at t from) refl o e
+
 -- what was taken out nests no deeper, and is a tree again
 pub removed_doc : (p : Pointer) (t w : Tree) → IsDoc t → removed p t ≡ Ok w → IsDoc w
 removed_doc p t w doc e = record { shallow = omega (arith, removed-depth p t w e, doc.shallow); tree = removed-tree p t w doc.tree e }
@@ -142,6 +181,9 @@ pub back_is : (p : Pointer) (t w u s : Tree) → IsDoc t → at t p ≡ Ok u →
 back_is p t w u s doc a e r = let both : ◌≡◌ {A = Result Tree Cause} (Ok s) (Ok t) = sym r ∙ put-back p t w u doc.tree a e in cc
 
 -- ---- tests
+
+pub other_tree : (b : Bool) (u v : Tree) → (IsTrue b ↔ (u ≡ v)) → b ≡ false → u ≡ v → ⊥
+other_tree b u v h e same = let both : true ≡ false = sym (h.1 same) ∙ e in cc
 
 same_truth-self : (b : Bool) → same_truth b b ≡ true
 same_truth-self true = refl
@@ -169,14 +211,6 @@ mutual
       both (bytes_eq k k) (same_tree t t && same_members ms ms) ((bytes_eq-Decides k k).1 refl) (both (same_tree t t) (same_members ms ms) (same_tree-self t) (same_members-self ms))
 
 -- ---- what is made of a tree is a tree
-
-abbrev pub HoldsTree : spec.Op → Type 0
-HoldsTree (spec.add p v) = is_tree v ≡ true
-HoldsTree (spec.remove p) = ⊤
-HoldsTree (spec.replace p v) = is_tree v ≡ true
-HoldsTree (spec.move from p) = ⊤
-HoldsTree (spec.copy from p) = ⊤
-HoldsTree (spec.test p v) = ⊤
 
 unless : (b : Bool) (r : Result Tree Cause) (w : Tree) → (if b then Err into_itself else r) ≡ Ok w → r ≡ Ok w
 unless true r w e = cc

@@ -3,13 +3,13 @@ use Rattle.std.proofs.Common.{◌≡◌, ◌+◌, ◌≤◌, length, Bool, true,
 use Rattle.spec_documents.specs.Tree.{Tree, depth, same_tree}
 use Rattle.spec_documents.specs.Place.{Pointer, Cause, test_failed, ◌>>=◌, at, with, is_beneath}
 use Rattle.spec_documents.specs.Patch as spec
-use Rattle.spec_documents.specs.Patch.{added, removed, edited, within_depth}
+use Rattle.spec_documents.specs.Patch.{added, removed, edited, within_depth, patched}
 use Rattle.spec_documents.proofs.SameTree.{same_tree-is}
 use Rattle.json_patch6902.specs.declared.fault.EditFault.{EditFault}
 use Rattle.json_patch6902.specs.declared.fault.EditFault.TheVariants.{Cause as because, NoMemory}
 use Rattle.json_patch6902.specs.Faults.{cause_view}
-use Rattle.json_patch6902.specs.Edits.{Edits, CanBeAdded, ChecksAdd, IsDoc}
-use Rattle.json_patch6902.proofs.OpLaws.{within_ok, added_fits, fits_not, refused_first, replaced, replaced_fits, moved, removed_doc, back_not, back_is, same_tree-self}
+use Rattle.json_patch6902.specs.Edits.{Refuses, Edits, CanBeAdded, IsDoc, replaced}
+use Rattle.json_patch6902.proofs.OpLaws.{within_ok, added_fits, fits_not, refused_first, replaced_fits, moved, no_move, removed_doc, back_not, back_is, same_tree-self}
 
 -- ---- what was found to fit is added
 
@@ -30,15 +30,15 @@ replaced_edits p v t u s (Err NoMemory) doc low a h = tt
 
 -- ---- what is refused before anything is done
 
-pub refused_edits : {A : Type 0} (t : Tree) (r : Result Tree Cause) (e : EditFault) → Edits {A = A} t t r (Err e) → Edits {A = A} t t (r >>= within_depth) (Err e)
+pub refused_edits : (t : Tree) (r : Result Tree Cause) (e : EditFault) → Refuses t t r e → Refuses t t (r >>= within_depth) e
 refused_edits t r (because why) h = (refused_first r (cause_view why) within_depth h.0, refl)
 refused_edits t r NoMemory h = tt
 
-pub unfit_edits : {A B : Type 0} (p : Pointer) (v t : Tree) (e : EditFault) → ChecksAdd {A = B} p v t (Err e) → Edits {A = A} t t (added p v t >>= within_depth) (Err e)
-unfit_edits p v t (because why) h = (h, refl)
-unfit_edits p v t NoMemory h = tt
-
 -- ---- moves
+
+pub no_move_edits : (from p : Pointer) (t u : Tree) (e : EditFault) → is_beneath from p ≡ false → Refuses t u (removed from t) e → Refuses t u (patched t (spec.move from p)) e
+no_move_edits from p t u (because why) o h = (refused_first (edited (spec.move from p) t) (cause_view why) within_depth (no_move from p t (cause_view why) o h.0), h.1)
+no_move_edits from p t u NoMemory o h = tt
 
 module _ (from p : Pointer) (t n w : Tree) (doc : IsDoc t) (apart : is_beneath from p ≡ false) (there : at t from ≡ Ok n) (without : removed from t ≡ Ok w) where
   move_is : (edited (spec.move from p) t >>= within_depth) ≡ (added p n w >>= within_depth)
@@ -50,12 +50,12 @@ module _ (from p : Pointer) (t n w : Tree) (doc : IsDoc t) (apart : is_beneath f
   moved_edits u (Err NoMemory) can h = tt
 
   -- it was put back
-  pub back_edits : {A B : Type 0} (u : Tree) (e : EditFault) → ChecksAdd {A = B} p n w (Err e) → added from n w ≡ Ok u → Edits {A = A} t u (edited (spec.move from p) t >>= within_depth) (Err e)
-  back_edits u (because why) h back = (move_is ∙ h, back_is from t w n u doc there without back)
+  pub back_edits : (u : Tree) (e : EditFault) → Refuses w w (patched w (spec.add p n)) e → added from n w ≡ Ok u → Refuses t u (patched t (spec.move from p)) e
+  back_edits u (because why) h back = (move_is ∙ h.0, back_is from t w n u doc there without back)
   back_edits u NoMemory h back = tt
 
   -- memory was refused for putting it back
-  pub lost_edits : {A B : Type 0} (u : Tree) (e : EditFault) → Edits {A = B} w u (added from n w) (Err e) → Edits {A = A} t u (edited (spec.move from p) t >>= within_depth) (Err e)
+  pub lost_edits : (u : Tree) (e : EditFault) → Refuses w u (added from n w) e → Refuses t u (patched t (spec.move from p)) e
   lost_edits u (because why) h = absurd (back_not from t w n (cause_view why) doc there without h.0)
   lost_edits u NoMemory h = tt
 

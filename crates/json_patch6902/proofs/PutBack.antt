@@ -2,6 +2,7 @@
 use Rattle.std.proofs.Common.{◌≡◌, ℕ, zero, suc, ◌≤◌, List, [], ◌∷◌, Bool, true, false, ◌&&◌, Option, Some, None, Result, Ok, Err, Ordering, Less, Equal, Greater, refl, sym, ap, ◌∙◌, subst, if◌then◌else◌, arith}
 use Rattle.std.specs.Ordering.{is_lt, match_ordering}
 use Rattle.std.specs.Prelude.{nat_le, bytes_eq}
+use Rattle.std.proofs.lemmas.Bool.{le-leb}
 use Rattle.std.proofs.lemmas.Slice.Eq.{bytes_eq-Decides}
 use Rattle.spec_documents.specs.Tree.{Tree, null, truth, whole, words, items, members, Trees, no_items, item, Members, no_members, member, name_cmp, is_tree, before_first, get_item, set_item, insert_item, remove_item, count_items, get_member, set_member, put_member, drop_member}
 use Rattle.spec_documents.specs.Place.{Pointer, Cause, no_place, found, ◌>>=◌, is_index, index_number, is_dash, no_item, child, at, put_child}
@@ -19,10 +20,13 @@ insert-removed n u no_items e = cc
 insert-removed zero u (item t ts) e = let same : t ≡ u = cc in ap (λ s. item s ts) (sym same)
 insert-removed (suc n) u (item t ts) e = ap (item t) (insert-removed n u ts e)
 
+room_left : (n : ℕ) (u : Tree) (ts : Trees) → get_item n ts ≡ Some u → n ≤ count_items (remove_item n ts)
+room_left n u no_items e = cc
+room_left zero u (item t ts) e = omega arith
+room_left (suc n) u (item t ts) e = omega (arith, room_left n u ts e)
+
 room : (n : ℕ) (u : Tree) (ts : Trees) → get_item n ts ≡ Some u → nat_le n (count_items (remove_item n ts)) ≡ true
-room n u no_items e = cc
-room zero u (item t ts) e = refl
-room (suc n) u (item t ts) e = room n u ts e
+room n u ts e = le-leb n (count_items (remove_item n ts)) (room_left n u ts e)
 
 set-set_item : (n : ℕ) (u v : Tree) (ts : Trees) → set_item n u (set_item n v ts) ≡ set_item n u ts
 set-set_item n u v no_items = refl

@@ -2,8 +2,9 @@
 use Rattle.std.specs.Prelude.{◌≡◌, ⊤, ◌≤◌, ◌<◌, ◌+◌, ℕ, List, length, true, Option, Some, None, Result, Ok, Err}
 use Rattle.std.specs.List.{insert}
 use Rattle.spec_documents.specs.Tree.{Tree, items, trees, depth, is_tree}
-use Rattle.spec_documents.specs.Place.{Pointer, Cause, ◌>>=◌, is_index, index_number, at}
-use Rattle.spec_documents.specs.Patch.{child_added, added, within_depth}
+use Rattle.spec_documents.specs.Place.{Pointer, Cause, ◌>>=◌, is_index, index_number, at, with}
+use Rattle.spec_documents.specs.Patch.{child_added, added, patched}
+use Rattle.spec_documents.specs.Patch as spec
 use Rattle.spec_documents.proofs.EditLemmas.{Edit, adding, taking, replacing}
 use Rattle.n32_values.specs.View.{tree_of}
 use Rattle.n32_values.specs.declared.node.Node.{Node}
@@ -11,14 +12,16 @@ use Rattle.json_patch6902.specs.declared.fault.EditFault.{EditFault}
 use Rattle.json_patch6902.specs.declared.fault.EditFault.TheVariants.{Cause as because, NoMemory}
 use Rattle.json_patch6902.specs.declared.change.Change.{Change}
 use Rattle.json_patch6902.specs.declared.change.Change.TheVariants.{Add, Take, Replace}
-use Rattle.json_patch6902.specs.declared.op.Op.{Op}
-use Rattle.json_patch6902.specs.declared.op.Op.TheVariants as op
 use Rattle.json_patch6902.specs.Faults.{cause_view}
+
+-- a refusal tells the cause that is computed, and u is t. After want of memory nobody reads u
+abbrev pub Refuses : Tree → Tree → Result Tree Cause → EditFault → Type 0
+Refuses t u wanted (because why) = (wanted ≡ Err (cause_view why)) × (u ≡ t)
+Refuses t u wanted NoMemory = ⊤
 
 abbrev pub Edits : {A : Type 0} → Tree → Tree → Result Tree Cause → Result A EditFault → Type 0
 Edits t u wanted (Ok x) = wanted ≡ Ok u
-Edits t u wanted (Err (because why)) = (wanted ≡ Err (cause_view why)) × (u ≡ t)
-Edits t u wanted (Err NoMemory) = ⊤
+Edits t u wanted (Err e) = Refuses t u wanted e
 
 -- an item of a list stands at i, where x points
 pub record IsItemAt (x : List ℕ) (ts : List Tree) (i : ℕ) : Type 0 where
@@ -46,8 +49,11 @@ pub record CanBeAdded (p : Pointer) (v t : Tree) : Type 0 where
 
 abbrev pub ChecksAdd : {A : Type 0} → Pointer → Tree → Tree → Result A EditFault → Type 0
 ChecksAdd p v t (Ok x) = CanBeAdded p v t
-ChecksAdd p v t (Err (because why)) = (added p v t >>= within_depth) ≡ Err (cause_view why)
-ChecksAdd p v t (Err NoMemory) = ⊤
+ChecksAdd p v t (Err e) = Refuses t t (patched t (spec.add p v)) e
+
+-- t with v in place of what stands at p
+abbrev pub replaced : Pointer → Tree → Tree → Result Tree Cause
+replaced p v t = at t p >>= λ u. Ok (with t p v)
 
 -- a document's node
 pub record IsDoc (t : Tree) : Type 0 where
@@ -72,16 +78,15 @@ TakenBy Take p t o = Taken p t o
 TakenBy (Replace v) p t o = ⊤
 
 -- the value of an operation that puts it is a tree
-abbrev pub PutsTree : Op → Type 0
-PutsTree (op.Add p v) = is_tree (tree_of v) ≡ true
-PutsTree (op.Remove p) = ⊤
-PutsTree (op.Replace p v) = is_tree (tree_of v) ≡ true
-PutsTree (op.Move from p) = ⊤
-PutsTree (op.Copy from p) = ⊤
-PutsTree (op.Test p v) = ⊤
+abbrev pub HoldsTree : spec.Op → Type 0
+HoldsTree (spec.add p v) = is_tree v ≡ true
+HoldsTree (spec.remove p) = ⊤
+HoldsTree (spec.replace p v) = is_tree v ≡ true
+HoldsTree (spec.move from p) = ⊤
+HoldsTree (spec.copy from p) = ⊤
+HoldsTree (spec.test p v) = ⊤
 
 -- a copy of what stands at from, which can be added at p
 abbrev pub CopiesFrom : Pointer → Pointer → Tree → Result Node EditFault → Type 0
 CopiesFrom from p t (Ok n) = (at t from ≡ Ok (tree_of n)) × CanBeAdded p (tree_of n) t
-CopiesFrom from p t (Err (because why)) = ((at t from >>= λ u. added p u t) >>= within_depth) ≡ Err (cause_view why)
-CopiesFrom from p t (Err NoMemory) = ⊤
+CopiesFrom from p t (Err e) = Refuses t t (patched t (spec.copy from p)) e

@@ -1,5 +1,5 @@
 // What is done in place to the member or item that a pointer's last token names.
-ghost use Rattle.std.specs.Prelude.{◌≡◌, ◌+◌, ◌<◌, [], ◌∷◌, IfOk, drop, length};
+ghost use Rattle.std.specs.Prelude.{◌<◌, [], ◌∷◌, IfOk, length};
 ghost use Rattle.spec_documents.specs.Tree.{items, trees, members};
 ghost use Rattle.spec_documents.proofs.EditLemmas.{edit};
 ghost use Rattle.n32_values.specs.View.{tree_of};
@@ -7,7 +7,6 @@ ghost use Rattle.json_patch6902.specs.Edits.{Edits, TakenBy, change_view};
 
 use crate::fault::{EditFault, PatchFault};
 use crate::place::{item_place, new_place};
-use json_ptr::Pointer;
 use n32_values::{Node, NodeList, NodeMap, Text};
 use std::alloc::Global;
 use std::mem;
@@ -88,26 +87,27 @@ fn change_child(
     }
 }
 
-/// Changes what the tokens from place `i` on lead to. A refused change leaves the node as it was.
-/// What is taken, replaced or overwritten is handed out.
+/// Changes what a path of tokens leads to. A refused change leaves the node as it was. What is taken,
+/// replaced or overwritten is handed out.
 #[cycle(change)]
 pub(crate) fn change_at(
     alloc: Global,
     node: &mut Node,
-    path: &Pointer,
-    i: usize,
+    path: &[Text],
     change: Change,
 ) -> Result<Option<Node>, EditFault>
-    requires { i < length path.now }
-    ensures edit { Edits (tree_of node.old) (tree_of node.new) (edit (change_view change) (drop i path.now) (tree_of node.old)) result }
-    ensures taken { IfOk result (TakenBy change (drop i path.now) (tree_of node.old)) }
+    ensures edit { Edits (tree_of node.old) (tree_of node.new) (edit (change_view change) path.now (tree_of node.old)) result }
+    ensures taken { IfOk result (TakenBy change path.now (tree_of node.old)) }
 {
-    if i + 1 == path.len() {
-        return change_child(alloc, node, path.token(i), change);
+    let Some((token, rest)) = path.split_first() else {
+        return Err(EditFault::Cause(PatchFault::NoPlace));
+    };
+    if rest.is_empty() {
+        return change_child(alloc, node, token, change);
     }
     match node {
-        Node::Items(list) => change_in_item(alloc, list, path, i, change),
-        Node::Members(map) => change_in_member(alloc, map, path, i, change),
+        Node::Items(list) => change_in_item(alloc, list, token, rest, change),
+        Node::Members(map) => change_in_member(alloc, map, token, rest, change),
         _ => Err(EditFault::Cause(PatchFault::NoPlace)),
     }
 }
@@ -116,17 +116,17 @@ pub(crate) fn change_at(
 fn change_in_item(
     alloc: Global,
     list: &mut NodeList,
-    path: &Pointer,
-    i: usize,
+    token: &Text,
+    rest: &[Text],
     change: Change,
 ) -> Result<Option<Node>, EditFault>
-    requires { i + 1 < length path.now }
-    ensures edit { Edits (items (trees list.old)) (items (trees list.new)) (edit (change_view change) (drop i path.now) (items (trees list.old))) result }
-    ensures taken { IfOk result (TakenBy change (drop i path.now) (items (trees list.old))) }
+    requires { 0 < length rest.now }
+    ensures edit { Edits (items (trees list.old)) (items (trees list.new)) (edit (change_view change) (token.now ∷ rest.now) (items (trees list.old))) result }
+    ensures taken { IfOk result (TakenBy change (token.now ∷ rest.now) (items (trees list.old))) }
 {
-    let place = item_place(list, path.token(i).as_str())?;
+    let place = item_place(list, token.as_str())?;
     match list.get_mut(place) {
-        Some(item) => change_at(alloc, item, path, i + 1, change),
+        Some(item) => change_at(alloc, item, rest, change),
         None => Err(EditFault::Cause(PatchFault::NoPlace)),
     }
 }
@@ -135,16 +135,16 @@ fn change_in_item(
 fn change_in_member(
     alloc: Global,
     map: &mut NodeMap,
-    path: &Pointer,
-    i: usize,
+    token: &Text,
+    rest: &[Text],
     change: Change,
 ) -> Result<Option<Node>, EditFault>
-    requires { i + 1 < length path.now }
-    ensures edit { Edits (members map.old) (members map.new) (edit (change_view change) (drop i path.now) (members map.old)) result }
-    ensures taken { IfOk result (TakenBy change (drop i path.now) (members map.old)) }
+    requires { 0 < length rest.now }
+    ensures edit { Edits (members map.old) (members map.new) (edit (change_view change) (token.now ∷ rest.now) (members map.old)) result }
+    ensures taken { IfOk result (TakenBy change (token.now ∷ rest.now) (members map.old)) }
 {
-    match map.get_mut(path.token(i).as_str()) {
-        Some(member) => change_at(alloc, member, path, i + 1, change),
+    match map.get_mut(token.as_str()) {
+        Some(member) => change_at(alloc, member, rest, change),
         None => Err(EditFault::Cause(PatchFault::NoPlace)),
     }
 }

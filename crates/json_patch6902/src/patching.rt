@@ -1,12 +1,12 @@
 // Each operation on the node of a document, in place, and `apply`.
-ghost use Rattle.std.specs.Prelude.{◌≡◌, ◌+◌, IfOk, OnOk, Ok, Err, if◌then◌else◌, length, nat_lt, true};
-ghost use Rattle.spec_documents.specs.Tree.{Tree, depth as nesting, is_tree};
-ghost use Rattle.spec_documents.specs.Place.{◌>>=◌, at, with};
+ghost use Rattle.std.specs.Prelude.{◌≡◌, ◌+◌, IfOk, OnOk, Ok, length, nat_lt, true};
+ghost use Rattle.spec_documents.specs.Tree.{depth as nesting, is_tree};
+ghost use Rattle.spec_documents.specs.Place.{at};
 ghost use Rattle.spec_documents.specs.Patch as spec;
-ghost use Rattle.spec_documents.specs.Patch.{added, removed, within_depth, patched};
+ghost use Rattle.spec_documents.specs.Patch.{added, removed, patched};
 ghost use Rattle.n32_values.specs.View.{tree_of};
 ghost use Rattle.json_patch6902.specs.Answers.{Applies};
-ghost use Rattle.json_patch6902.specs.Edits.{Edits, ChecksAdd, CopiesFrom, IsDoc, PutsTree};
+ghost use Rattle.json_patch6902.specs.Edits.{Edits, ChecksAdd, CopiesFrom, IsDoc, HoldsTree, replaced};
 ghost use Rattle.json_patch6902.specs.View.{op_view};
 
 use crate::change::{Change, change_at};
@@ -28,7 +28,7 @@ fn add_at(alloc: Global, node: &mut Node, path: &Pointer, value: Node) -> Result
         *node = value;
         return Ok(());
     }
-    change_at(alloc, node, path, 0, Change::Add(value))?;
+    change_at(alloc, node, path.tokens().as_slice(), Change::Add(value))?;
     Ok(())
 }
 
@@ -36,23 +36,25 @@ fn take_at(alloc: Global, node: &mut Node, path: &Pointer) -> Result<Node, EditF
     ensures edit { Edits (tree_of node.old) (tree_of node.new) (removed path.now (tree_of node.old)) result }
     ensures taken { IfOk result (λ n. at (tree_of node.old) path.now ≡ Ok (tree_of n)) }
 {
-    if path.is_empty() {
-        return Err(EditFault::Cause(PatchFault::NoPlace));
-    }
-    match change_at(alloc, node, path, 0, Change::Take)? {
+    match change_at(alloc, node, path.tokens().as_slice(), Change::Take)? {
         Some(taken) => Ok(taken),
         None => unreachable!(),
     }
 }
 
 fn replace_at(alloc: Global, node: &mut Node, path: &Pointer, value: Node) -> Result<(), EditFault>
-    ensures { Edits (tree_of node.old) (tree_of node.new) (at (tree_of node.old) path.now >>= λ u. Ok (with (tree_of node.old) path.now (tree_of value))) result }
+    ensures { Edits (tree_of node.old) (tree_of node.new) (replaced path.now (tree_of value) (tree_of node.old)) result }
 {
     if path.is_empty() {
         *node = value;
         return Ok(());
     }
-    change_at(alloc, node, path, 0, Change::Replace(value))?;
+    change_at(
+        alloc,
+        node,
+        path.tokens().as_slice(),
+        Change::Replace(value),
+    )?;
     Ok(())
 }
 
@@ -79,7 +81,7 @@ fn check_add(node: &Node, path: &Pointer, value: &Node) -> Result<(), EditFault>
 
 fn add(alloc: Global, node: &mut Node, path: &Pointer, value: &Node) -> Result<(), EditFault>
     requires { IsDoc (tree_of node.old) }
-    ensures edit { Edits (tree_of node.old) (tree_of node.new) (spec.edited (spec.add path.now (tree_of value.now)) (tree_of node.old) >>= within_depth) result }
+    ensures edit { Edits (tree_of node.old) (tree_of node.new) (patched (tree_of node.old) (spec.add path.now (tree_of value.now))) result }
     ensures tree { OnOk result (is_tree (tree_of value.now) ≡ true) }
 {
     check_add(node, path, value)?;
@@ -89,7 +91,7 @@ fn add(alloc: Global, node: &mut Node, path: &Pointer, value: &Node) -> Result<(
 
 fn remove(alloc: Global, node: &mut Node, path: &Pointer) -> Result<(), EditFault>
     requires { IsDoc (tree_of node.old) }
-    ensures { Edits (tree_of node.old) (tree_of node.new) (spec.edited (spec.remove path.now) (tree_of node.old) >>= within_depth) result }
+    ensures { Edits (tree_of node.old) (tree_of node.new) (patched (tree_of node.old) (spec.remove path.now)) result }
 {
     take_at(alloc, node, path)?;
     Ok(())
@@ -97,7 +99,7 @@ fn remove(alloc: Global, node: &mut Node, path: &Pointer) -> Result<(), EditFaul
 
 fn replace(alloc: Global, node: &mut Node, path: &Pointer, value: &Node) -> Result<(), EditFault>
     requires { IsDoc (tree_of node.old) }
-    ensures edit { Edits (tree_of node.old) (tree_of node.new) (spec.edited (spec.replace path.now (tree_of value.now)) (tree_of node.old) >>= within_depth) result }
+    ensures edit { Edits (tree_of node.old) (tree_of node.new) (patched (tree_of node.old) (spec.replace path.now (tree_of value.now))) result }
     ensures tree { OnOk result (is_tree (tree_of value.now) ≡ true) }
 {
     find(node, path)?;
@@ -116,17 +118,19 @@ fn move_node(
     path: &Pointer,
 ) -> Result<(), EditFault>
     requires { IsDoc (tree_of node.old) }
-    ensures { Edits (tree_of node.old) (tree_of node.new) (spec.edited (spec.move from.now path.now) (tree_of node.old) >>= within_depth) result }
+    ensures { Edits (tree_of node.old) (tree_of node.new) (patched (tree_of node.old) (spec.move from.now path.now)) result }
 {
     if is_beneath(from, path) {
         return Err(EditFault::Cause(PatchFault::IntoItself));
     }
     let taken = take_at(alloc, node, from)?;
-    if let Err(why) = check_add(node, path, &taken) {
-        add_at(alloc, node, from, taken)?;
-        return Err(why);
+    match check_add(node, path, &taken) {
+        Ok(()) => add_at(alloc, node, path, taken),
+        Err(why) => {
+            add_at(alloc, node, from, taken)?;
+            Err(why)
+        }
     }
-    add_at(alloc, node, path, taken)
 }
 
 fn copied_from(
@@ -144,7 +148,7 @@ fn copied_from(
 
 fn copy(alloc: Global, node: &mut Node, from: &Pointer, path: &Pointer) -> Result<(), EditFault>
     requires { IsDoc (tree_of node.old) }
-    ensures { Edits (tree_of node.old) (tree_of node.new) (spec.edited (spec.copy from.now path.now) (tree_of node.old) >>= within_depth) result }
+    ensures { Edits (tree_of node.old) (tree_of node.new) (patched (tree_of node.old) (spec.copy from.now path.now)) result }
 {
     let copied = copied_from(alloc, node, from, path)?;
     add_at(alloc, node, path, copied)
@@ -152,7 +156,7 @@ fn copy(alloc: Global, node: &mut Node, from: &Pointer, path: &Pointer) -> Resul
 
 fn test(node: &Node, path: &Pointer, value: &Node) -> Result<(), EditFault>
     requires { IsDoc (tree_of node.now) }
-    ensures { Edits (tree_of node.now) (tree_of node.now) (spec.edited (spec.test path.now (tree_of value.now)) (tree_of node.now) >>= within_depth) result }
+    ensures { Edits (tree_of node.now) (tree_of node.now) (patched (tree_of node.now) (spec.test path.now (tree_of value.now))) result }
 {
     if is_same_doc(find(node, path)?, value) {
         Ok(())
@@ -164,7 +168,7 @@ fn test(node: &Node, path: &Pointer, value: &Node) -> Result<(), EditFault>
 fn edit(alloc: Global, node: &mut Node, op: &Op) -> Result<(), EditFault>
     requires { IsDoc (tree_of node.old) }
     ensures edit { Edits (tree_of node.old) (tree_of node.new) (patched (tree_of node.old) (op_view op.now)) result }
-    ensures tree { OnOk result (PutsTree op.now) }
+    ensures tree { OnOk result (HoldsTree (op_view op.now)) }
 {
     match op {
         Op::Add { path, value } => add(alloc, node, path, value),
