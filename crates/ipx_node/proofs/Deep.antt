@@ -55,5 +55,18 @@ entry_depth t e shallow =
     deep_step (codes "modificationsBlock") (members_of t) (unwrap_or (entries_of t) []) e (depth t) shallow (members_step t)
     (items_step (codes "modificationsBlock") (members_of t) (get_member (codes "modificationsBlock") (members_of t)) refl)
 
+le_both : (a b c : ℕ) → a ≤ b → b ≤ c → a ≤ c
+le_both a b c f g = omega arith
+
+-- the same of the members in their map
+pub fits : (t e : Tree) (old new : Members) → depth t ≤ 127 → depth e ≤ 1 → old ≡ members_of t
+    → new ≡ put_member (codes "modificationsBlock") (items (trees (unwrap_or (items_in (get_member (codes "modificationsBlock") old)) [] ++ e ∷ []))) old → suc (members_depth new) ≤ 127
+fits t e old new low shallow is_old is_new =
+    let is : members new ≡ with_entry t (unwrap_or (entries_of t) []) e =
+    ap members (is_new ∙ ap (λ ms. put_member (codes "modificationsBlock") (items (trees (unwrap_or (items_in (get_member (codes "modificationsBlock") ms)) [] ++ e ∷ []))) ms) is_old) in
+    let deep : depth (with_entry t (unwrap_or (entries_of t) []) e) ≤ max (depth t) 3 = entry_depth t e shallow in
+    let within : max (depth t) 3 ≤ 127 = omega (arith, low) in
+    subst (λ n. depth n ≤ 127) (sym is) (le_both _ _ 127 deep within)
+
 pub signed_depth : (meaning : Option (JwsAlg → List ℕ → List ℕ → List ℕ)) (alg : JwsAlg) (identity : List ℕ) (operations : Tree) (tag : List ℕ) (e : Tree) → IsSigned meaning alg identity operations tag e → depth e ≤ 1
 signed_depth meaning alg identity operations tag e signed = subst (λ n. depth n ≤ 1) (sym signed.entry) (omega arith)

@@ -14,7 +14,8 @@ const ENTRIES: &str = "modificationsBlock";
 
 // A copy of the members of a document, none where it is no object.
 fn copied_members(alloc: Global, doc: &Doc) -> Result<NodeMap, NoMemory>
-    ensures { IfOk result (λ m. m ≡ members_of doc.now) }
+    ensures members { IfOk result (λ m. m ≡ members_of doc.now) }
+    ensures shallow { nesting doc.now ≤ 127 }
 {
     match copy_doc(alloc, doc.node())? {
         Node::Members(map) => Ok(map),
