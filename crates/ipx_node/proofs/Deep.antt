@@ -1,5 +1,5 @@
 -- How deep a document is with an entry more.
-use Rattle.std.proofs.Common.{◌≡◌, ℕ, suc, ◌≤◌, List, [], ◌∷◌, ◌++◌, Option, Some, None, Ordering, Less, Equal, Greater, max, refl, ap, subst, sym, codes, arith}
+use Rattle.std.proofs.Common.{◌≡◌, ℕ, suc, ◌≤◌, List, [], ◌∷◌, ◌++◌, Option, Some, None, Ordering, Less, Equal, Greater, max, refl, ap, subst, sym, ◌∙◌, codes, arith}
 use Rattle.std.specs.Prelude.{unwrap_or}
 use Rattle.std.specs.Ordering.{match_ordering}
 use Rattle.spec_documents.specs.Tree.{Tree, null, truth, whole, words, items, members, Members, no_members, member, trees, tree_list, items_in, name_cmp, get_member, put_member, depth, items_depth, members_depth}
