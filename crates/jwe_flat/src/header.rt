@@ -1,6 +1,7 @@
 //! Headers that are read, and the one that is written.
 
-ghost use Rattle.std.specs.Prelude.{◌≡◌, IfOk, option_map, option_and_then};
+ghost use Rattle.std.specs.Prelude.{◌≡◌, ◌≤◌, IfOk, IfSome, option_map, option_and_then};
+ghost use Rattle.spec_documents.specs.Tree.{members, depth as nesting};
 ghost use Rattle.spec_documents.specs.Reading.{document_of};
 ghost use Rattle.n32_values.specs.View.{tree_of};
 ghost use Rattle.spec_sealing.specs.Header as spec;
@@ -15,7 +16,8 @@ use n32_values::{
 use std::alloc::Global;
 
 fn object_in(node: Node) -> Option<NodeMap>
-    ensures { result ≡ spec.object_in (tree_of node) }
+    ensures object { result ≡ spec.object_in (tree_of node) }
+    ensures whole { IfSome result (λ m. members m ≡ tree_of node) }
 {
     match node {
         Node::Members(map) => Some(map),
@@ -25,7 +27,8 @@ fn object_in(node: Node) -> Option<NodeMap>
 
 // The members of the JSON object that bytes are read to, if they are read to one.
 fn read_object(alloc: Global, bytes: &[u8]) -> Result<Option<NodeMap>, NoMemory>
-    ensures { IfOk result (λ found. option_and_then spec.object_in (document_of bytes.now) ≡ found) }
+    ensures object { IfOk result (λ found. option_and_then spec.object_in (document_of bytes.now) ≡ found) }
+    ensures shallow { IfOk result (λ found. IfSome found (λ m. nesting (members m) ≤ 127)) }
 {
     match read_doc(alloc, bytes) {
         Ok(doc) => Ok(object_in(doc.into_node())),
@@ -35,9 +38,14 @@ fn read_object(alloc: Global, bytes: &[u8]) -> Result<Option<NodeMap>, NoMemory>
     }
 }
 
-// The members of the header that a text is of, if it is a header's.
-pub(crate) fn read_header(alloc: Global, text: &str) -> Result<Option<NodeMap>, NoMemory>
-    ensures { IfOk result (λ found. spec.header_in text.now ≡ found) }
+/// The members of the JSON object whose base64url text this is, as a header's is (RFC 7516, section 5.2,
+/// steps 2 and 3), or `None` exactly where the text is that of none.
+///
+/// # Errors
+/// `NoMemory` where memory was refused.
+pub fn read_header(alloc: Global, text: &str) -> Result<Option<NodeMap>, NoMemory>
+    ensures members { IfOk result (λ found. spec.header_in text.now ≡ found) }
+    ensures shallow { IfOk result (λ found. IfSome found (λ m. nesting (members m) ≤ 127)) }
 {
     match read_base64url(alloc, text) {
         Ok(bytes) => read_object(alloc, bytes.as_slice()),

@@ -10,6 +10,7 @@ mod read;
 mod sealing;
 mod write;
 
+pub use header::read_header;
 pub use jwe::FlatJwe;
 pub use key::{ContentKey, Suite};
 pub use opening::{CipherWhy, JweOpen, open_jwe};

@@ -2,8 +2,8 @@
 use crate::args::Args;
 use crate::given::Given;
 use crate::{
-    blocks, changes, ciphers, differences, holes, jwes, messages, patches, pointers, policies,
-    records, sealing, texts, values, wires,
+    blocks, changes, ciphers, differences, entries, holes, jwes, messages, patches, pointers,
+    policies, records, sealing, texts, values, wires,
 };
 use n32_values::Node;
 use std::alloc::Global;
@@ -105,6 +105,23 @@ fn sealed_call(alloc: Global, name: &str, args: Args<'_>, given: &Given) -> Opti
         "is_wire_doc" => wires::is_wire_doc_call(alloc, given),
         "entries" => wires::entries_call(given),
         "read_record" => records::read_record_call(alloc, args),
+        _ => entry_call(alloc, name, args, given),
+    }
+}
+
+// Entries of intermediaries.
+fn entry_call(alloc: Global, name: &str, args: Args<'_>, given: &Given) -> Option<Node> {
+    match name {
+        "hmac_sha256" => entries::hmac_sha256_call(alloc, args, given),
+        "hs256_sign" => entries::hs256_sign_call(alloc, args, given),
+        "hs256_verify" => entries::hs256_verify_call(alloc, args, given),
+        "signing_input" => entries::signing_input_call(alloc, args),
+        "read_jws" => entries::read_jws_call(alloc, args),
+        "read_entry" => entries::read_entry_call(alloc, args),
+        "read_payload" => entries::read_payload_call(alloc, args),
+        "sign_entry" => entries::sign_entry_call(alloc, args, given),
+        "verify_entry" => entries::verify_entry_call(alloc, args, given),
+        "pass_on" => entries::pass_on_call(alloc, args, given),
         _ => None,
     }
 }

@@ -24,6 +24,8 @@ pub struct Given {
     /// `whole`, a second pointer.
     pub whole: Option<Pointer>,
     pub operations: Option<OpList>,
+    /// `operations` as they are written, which may be none.
+    pub written: Option<Doc>,
     pub block: Option<Doc>,
     /// `wire`, the document of a wire.
     pub wire: Option<Doc>,
@@ -150,6 +152,7 @@ pub fn read_given(alloc: Global, args: Args<'_>) -> Given {
         pointer: pointer_in(alloc, args.row.get("pointer")),
         whole: pointer_in(alloc, args.row.get("whole")),
         operations: operations_in(alloc, args.document("operations")),
+        written: body_in(alloc, args.document("operations")),
         block: body_in(alloc, args.document("block")),
         wire: body_in(alloc, args.document("wire")),
         ipx: text_in(alloc, args.row.get("ipx")),

@@ -14,6 +14,7 @@ mod calls;
 mod changes;
 mod ciphers;
 mod differences;
+mod entries;
 mod given;
 mod holes;
 mod jwes;

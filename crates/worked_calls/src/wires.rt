@@ -12,7 +12,7 @@ use prins_document::{
 };
 use std::alloc::Global;
 
-fn part_word(part: WireMember) -> &'static str {
+pub fn part_word(part: WireMember) -> &'static str {
     match part {
         WireMember::Document => "document",
         WireMember::Jwe(member) => member_word(member),

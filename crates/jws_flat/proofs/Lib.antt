@@ -1,0 +1,4 @@
+pub mod Signed
+pub mod Operations
+pub mod Keys
+pub mod Payloads
