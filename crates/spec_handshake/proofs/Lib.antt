@@ -1,0 +1,12 @@
+pub mod Chains
+pub mod RecordLemmas
+pub mod StartLemmas
+pub mod PolicyLemmas
+pub mod DifferenceLemmas
+pub mod ReadBack
+pub mod Depth
+pub mod NamesRead
+pub mod Agreeing
+pub mod KeepingLemmas
+pub mod Steps
+pub mod Runs

@@ -1,0 +1,9 @@
+pub mod Documents
+pub mod Differences
+pub mod Refusals
+pub mod Starts
+pub mod Forms
+pub mod Calls
+pub mod Runs
+pub mod Agreement
+pub mod Rows
