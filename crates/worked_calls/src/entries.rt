@@ -1,5 +1,8 @@
 // The calls of `jws_flat` and `ipx_node`. Keys, inputs and signatures are hexadecimal digits. The signer and
 // the verifier are `Hs256` with the text `root`, and fail at the calls whose numbers are listed in `fails`.
+ghost use Rattle.std.specs.Prelude.{◌≤◌, IsTrue};
+ghost use Rattle.spec_documents.specs.Tree.{depth as nesting};
+
 use crate::args::{Args, number_of};
 use crate::given::Given;
 use crate::nodes::{fault_node, map_node, put_part, text_node};
@@ -11,7 +14,7 @@ use jws_flat::{
     read_jws, sign_entry, signing_input, verify_entry,
 };
 use n32_outside::{CallList, FailAt, JwsAlg, Signer, Verifier};
-use n32_values::{Bytes, Doc, Node, NodeList, NodeMap, Text};
+use n32_values::{Bytes, Doc, Node, NodeList, NodeMap, Text, depth};
 use std::alloc::Global;
 
 fn mac(alloc: Global, key: Vec<u8>, input: &[u8]) -> Option<Node> {
@@ -223,6 +226,13 @@ pub fn read_payload_call(alloc: Global, args: Args<'_>) -> Option<Node> {
     }
 }
 
+// Whether the payload of an entry with these operations can be read again.
+fn may_be_signed(operations: &Doc) -> bool
+    ensures { IsTrue result → nesting operations.now ≤ 126 }
+{
+    depth(operations.node()) <= 126
+}
+
 fn signed(
     alloc: Global,
     mut signer: FailAt<Hs256>,
@@ -230,6 +240,9 @@ fn signed(
     operations: &Doc,
     tag: &Text,
 ) -> Option<Node> {
+    if !may_be_signed(operations) {
+        return None;
+    }
     match sign_entry(alloc, &mut signer, identity, operations, tag) {
         Ok(entry) => Some(entry),
         Err(SignFault::Signer) => fault_node(alloc, "SIGNER"),
@@ -279,6 +292,9 @@ pub fn verify_entry_call(alloc: Global, args: Args<'_>, given: &Given) -> Option
 }
 
 fn passed(alloc: Global, mut signer: FailAt<Hs256>, doc: &Doc, config: &IpxConfig) -> Option<Node> {
+    if !may_be_signed(&config.operations) {
+        return None;
+    }
     match pass_on(alloc, doc, config, &mut signer) {
         Ok(doc) => Some(doc.into_node()),
         Err(PassFault::Form(part)) => fault_node(alloc, part_word(part)),
