@@ -1,36 +1,36 @@
 -- Each index of a block has its one place in the clear message.
 use Rattle.std.proofs.Common.{◌≡◌, ℕ, zero, suc, ◌<◌, List, [], ◌∷◌, ◌++◌, length, Ordering, Less, Equal, Greater, Bool, true, false, not, ◌&&◌, ◌||◌, ◌==◌, Option, Some, None, Result, Ok, Err, refl, sym, ap, ap₂, ◌∙◌, subst, inl, inr, if◌then◌else◌, codes, slice_get, bytes_eq}
-use Rattle.std.proofs.lemmas.Bool.{and_parts, and_from, or_cases, or_from, or_left, or_right, eq-eqb}
+use Rattle.std.proofs.lemmas.Bool.{and_parts, and_from, or_from, or_left, or_right, eq-eqb}
 use Rattle.std.proofs.lemmas.Option.{slice_get-get_or, slice_get_within}
 use Rattle.std.proofs.lemmas.Slice.Eq.{bytes_eq-Decides}
 use Rattle.std.specs.Prelude.{◌⊎◌, option_map, pos, get_or}
 use Rattle.std.specs.Ordering.{match_ordering}
 use Rattle.std.specs.List.{list_any}
-use Rattle.spec_documents.specs.Tree.{Tree, name_cmp, null, truth, whole, words, items, members, Trees, Members, get_item, get_member, tree_list, items_in, is_ordered}
-use Rattle.spec_documents.specs.Place.{Pointer, Cause, no_place, found, ◌>>=◌, if_ok, is_index, index_number, child, at, last, is_prefix, is_beneath, read_pointer}
+use Rattle.spec_documents.specs.Tree.{Tree, name_cmp, null, truth, whole, words, items, members, Trees, get_item, get_member, tree_list}
+use Rattle.spec_documents.specs.Place.{Pointer, no_place, found, ◌>>=◌, if_ok, is_index, index_number, child, at, last, is_prefix, is_beneath, read_pointer}
 use Rattle.spec_documents.specs.Text.{index_text}
-use Rattle.spec_documents.specs.Hole.{mark, hole, is_marked, goes_into, HolePlace, Mark, object_mark, object_marks, text_marks, all_marks, places, path_pointer, query_pointer, first_bad, first_twice, indexes, bad_hole, twice, is_some_index}
-use Rattle.spec_documents.specs.HolePlaces.{StandsIn, StandsAt, IsPlaces}
-use Rattle.spec_messages.specs.Message.{Message, Part, all_read}
-use Rattle.spec_messages.specs.Policy.{Spot, segment_spot, pair_spot, header_spot, body_spot, part_value, value_or_null, query_pairs, result_ok}
-use Rattle.spec_messages.specs.Block.{Items, item_of, items_of, block_items, members_of, IsBlock, IsBody, IsGrown, AllAt, is_object, is_apart, block_tree, block_members, pointed, pointed_at}
+use Rattle.spec_documents.specs.Hole.{mark, hole, goes_into, HolePlace, object_mark, object_marks, text_marks, all_marks, places, path_pointer, query_pointer, first_bad, bad_hole, is_some_index}
+use Rattle.spec_documents.specs.HolePlaces.{StandsIn, StandsAt}
+use Rattle.spec_messages.specs.Message.{Message, all_read}
+use Rattle.spec_messages.specs.Policy.{Spot, segment_spot, pair_spot, header_spot, body_spot, part_value, query_pairs, result_ok}
+use Rattle.spec_messages.specs.Block.{Items, item_of, items_of, members_of, IsBlock, IsBody, IsGrown, is_apart, block_members, pointed, pointed_at}
 use Rattle.spec_messages.specs.Changed.{segments_in}
-use Rattle.spec_messages.specs.Standing.{standing, body_standing, is_body_open, HoleAt, OnePlace}
+use Rattle.spec_messages.specs.Standing.{body_standing, is_body_open, HoleAt, OnePlace}
 use Rattle.spec_documents.proofs.TreeLemmas.{bind_ok, found_ok, chosen_ok}
 use Rattle.spec_documents.proofs.Digits.{index_text-index_number, index_number-index_text}
 use Rattle.spec_documents.proofs.FieldLemmas.{get_item-trees, trees-list}
 use Rattle.spec_documents.proofs.FillLemmas.{open_step}
 use Rattle.spec_documents.proofs.PlaceLemmas.{any_split, unless_ok}
 use Rattle.spec_messages.proofs.LeafLemmas.{at-append}
-use Rattle.spec_messages.proofs.MarkSound.{AllOf, Has, append-all, all-map, map-all_of, all-has, child_index, Good}
+use Rattle.spec_messages.proofs.MarkSound.{AllOf, Has, append-all, all-map, map-all_of, child_index, Good}
 use Rattle.spec_messages.proofs.PlaceWords.{StandsMark, Below, all_below, all_stand, stands_has, is_index_of, places-are}
 use Rattle.spec_messages.proofs.AllowedLemmas.{block_places}
 use Rattle.spec_messages.proofs.BlockOrder.{block-ordered}
 use Rattle.spec_messages.proofs.HoleSpots.{is_mark_of, is_text_spot}
-use Rattle.spec_messages.proofs.HoleReads.{is_hole, pair_part, header_value, onto_some}
+use Rattle.spec_messages.proofs.HoleReads.{onto_some}
 use Rattle.spec_messages.proofs.HeaderHoles.{value_pointer, is_header_spot}
 use Rattle.spec_messages.proofs.ItemsOpen.{InList, in_split, all_item, item-open}
-use Rattle.spec_messages.proofs.ValuesStay.{part_holes, pair_holes, header_holes, holes_part, holes_pair, holes_header, segment_of, pair_of_block, header_of_block, body_there, not_into, passing, unmarked_on}
+use Rattle.spec_messages.proofs.ValuesStay.{part_holes, pair_holes, header_holes, holes_part, holes_pair, holes_header, segment_of, pair_of_block, header_of_block, body_there, passing, unmarked_on}
 
 -- ---- the message place of a hole's place
 

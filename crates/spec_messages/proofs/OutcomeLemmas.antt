@@ -1,5 +1,5 @@
 -- What is computed of an operation and an entry is what their definitions say.
-use Rattle.std.proofs.Common.{◌≡◌, ℕ, suc, ◌+◌, List, [], ◌∷◌, ◌++◌, length, Bool, true, false, not, ◌&&◌, ◌==◌, Option, Some, None, Result, Ok, Err, refl, sym, ap, ap₂, ◌∙◌, subst, inl, inr, is_some, if◌then◌else◌, arith}
+use Rattle.std.proofs.Common.{◌≡◌, ℕ, suc, ◌+◌, List, [], ◌∷◌, ◌++◌, length, Bool, true, false, not, ◌&&◌, Option, Some, None, Result, Ok, Err, refl, sym, ap, ap₂, ◌∙◌, subst, inl, inr, is_some, if◌then◌else◌, arith}
 use Rattle.std.proofs.lemmas.Bool.{and_parts, and_from, eqb-true, eq-eqb}
 use Rattle.std.proofs.lemmas.Slice.Eq.{bytes_eq-Decides}
 use Rattle.std.specs.Prelude.{◌⊎◌, bytes_eq}
@@ -12,11 +12,11 @@ use Rattle.spec_messages.specs.Policy.{Policy, Address}
 use Rattle.spec_messages.specs.Block.{IsBlock, clear_message}
 use Rattle.spec_messages.specs.Fault.{BlockFault, block_fault}
 use Rattle.spec_messages.specs.Entry.{OpWhy, hole_value, into_hole, patch, hole_taken, too_large, metadata, not_block, hole_moved, not_modifiable, op_result, first_fixed, Allowed, Refused, OpCause, EntryApplied}
-use Rattle.spec_messages.specs.Outcome.{same_pointer, same_part, same_place, same_place_list, same_places, message_or, read_again, unless_fixed, compared, operation_outcome, numbered_cause, outcome_from, Ground, AppliedOn, FirstRefused}
+use Rattle.spec_messages.specs.Outcome.{same_pointer, same_part, same_place, same_place_list, same_places, message_or, read_again, unless_fixed, compared, operation_outcome, numbered_cause, outcome_from}
 use Rattle.spec_documents.proofs.TreeLemmas.{bind_ok}
 use Rattle.spec_messages.proofs.AllowedLemmas.{block_places}
 use Rattle.spec_messages.proofs.BlockOrder.{block-ordered}
-use Rattle.spec_messages.proofs.BlockLaws.{block-same, block-clear, clear-block, block-faultless}
+use Rattle.spec_messages.proofs.BlockLaws.{block-clear, clear-block, block-faultless}
 
 -- ---- places
 

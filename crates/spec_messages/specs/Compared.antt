@@ -2,8 +2,7 @@
 use Rattle.std.specs.Prelude.{◌≡◌, ℕ, List, ◌∷◌, ◌++◌, true, false, Option, Some, None, Ok, slice_get}
 use Rattle.spec_documents.specs.Tree.{Tree}
 use Rattle.spec_documents.specs.Place.{Pointer, at}
-use Rattle.spec_documents.specs.Hole.{is_marked}
-use Rattle.spec_messages.specs.Message.{Part, Pair, Header, Line, request, response, Message, kind_of}
+use Rattle.spec_messages.specs.Message.{Pair, Header, Line, request, response, Message, kind_of}
 use Rattle.spec_messages.specs.Policy.{Policy, Spot, secret_places, Address, mapping_at, patterns_of, segment_address, query_pairs, of_name, pairs_named, headers_named, differs}
 use Rattle.spec_messages.specs.Block.{is_ordered_body}
 use Rattle.spec_messages.specs.Entry.{first_fixed}
@@ -47,9 +46,15 @@ SamePairs m n name = of_name name (pairs_named (query_pairs m.head)) ≡ of_name
 abbrev pub SameHeaders : Message → Message → List ℕ → Type 0
 SameHeaders m n name = of_name name (headers_named m.headers) ≡ of_name name (headers_named n.headers)
 
+abbrev pub PairAt : Message → ℕ → Pair → Type 0
+PairAt m i p = slice_get (query_pairs m.head) i ≡ Some p
+
+abbrev pub HeaderAt : Message → ℕ → Header → Type 0
+HeaderAt m i h = slice_get m.headers i ≡ Some h
+
 -- v stands at q in the body
-abbrev pub StandsInBody : Message → Pointer → Tree → Type 0
-StandsInBody m q v = (t : Tree) × (m.body ≡ Some t) × (at t q ≡ Ok v)
+abbrev pub InBody : Message → Pointer → Tree → Type 0
+InBody m q v = (t : Tree) × (m.body ≡ Some t) × (at t q ≡ Ok v)
 
 -- ---- where each difference may be modified
 

@@ -6,7 +6,7 @@ use Rattle.spec_documents.specs.Hole.{hole, is_marked}
 use Rattle.spec_messages.specs.Message.{Message, is_whole, body_depth}
 use Rattle.spec_messages.specs.Policy.{Policy, values}
 use Rattle.spec_messages.specs.Split.{cleared}
-use Rattle.spec_messages.specs.Block.{Meta, is_meta, is_ordered_body, in_limits, block_of}
+use Rattle.spec_messages.specs.Block.{Meta, is_meta, is_ordered_body, in_limits, block_of, sent_block, IsBlock}
 
 -- a whole message with at most 1,024 secret values
 pub record Splits (pol : Policy) (k : Option ℕ) (m : Message) : Type 0 where
@@ -25,3 +25,7 @@ pub record Sendable (pol : Policy) (k : Option ℕ) (m : Message) (meta : Meta) 
 -- each object of t with a member `encBlockIndex` is a hole
 abbrev pub MarksAreHoles : Tree → Type 0
 MarksAreHoles t = (q : Pointer) (u : Tree) → at t q ≡ Ok u → is_marked u ≡ true → (i : ℕ) × (u ≡ hole i)
+
+-- the sent block is a block with as many holes as there are values, and stands for the cleared message
+abbrev pub SentIsBlock : Policy → Option ℕ → Message → Meta → Type 0
+SentIsBlock pol k m meta = IsBlock (sent_block pol k m meta) (length (values pol k m)) (cleared pol k m)

@@ -1,20 +1,19 @@
 //! The filled block stands for the filled message.
 
 ghost use Rattle.std.specs.Prelude.{◌≡◌, true, ℕ, List, Some};
-ghost use Rattle.std.specs.List.{list_all};
-ghost use Rattle.spec_documents.specs.Tree.{Tree, is_ordered};
+ghost use Rattle.spec_documents.specs.Tree.{Tree};
 ghost use Rattle.spec_documents.specs.Hole.{fill_all, fill_tree};
 ghost use Rattle.spec_messages.specs.Message.{Message};
 ghost use Rattle.spec_messages.specs.Split.{filled};
 ghost use Rattle.spec_messages.specs.Block.{IsBlock, StandsFor, is_ordered_body};
-ghost use Rattle.spec_messages.specs.Steps.{Fills};
+ghost use Rattle.spec_messages.specs.Steps.{Fills, InOrder};
 
 /// A filled block stands for the filled message, exactly where that message's body has its names in order, as it has where each value has.
 pub fn filled_block_stands()
-    ensures exact { (j : Tree) (n : ℕ) (c : Message) (f : Fills c) → IsBlock j n c → is_ordered_body f.full.body ≡ true → StandsFor (fill_all f.values j) f.full }
+    ensures exact { (j : Tree) (n : ℕ) (c : Message) → IsBlock j n c → (f : Fills c) → is_ordered_body f.full.body ≡ true → StandsFor (fill_all f.values j) f.full }
     ensures needed { (t : Tree) (x : Message) → StandsFor t x → is_ordered_body x.body ≡ true }
-    ensures ordered { (j : Tree) (n : ℕ) (c : Message) (f : Fills c) → IsBlock j n c → list_all is_ordered f.values ≡ true → StandsFor (fill_all f.values j) f.full }
-    ensures there { (j : Tree) (n : ℕ) (c : Message) (f : Fills c) → IsBlock j n c → fill_tree f.values j ≡ Some (fill_all f.values j) }
+    ensures ordered { (j : Tree) (n : ℕ) (c : Message) → IsBlock j n c → (f : Fills c) → InOrder f.values → StandsFor (fill_all f.values j) f.full }
+    ensures there { (j : Tree) (n : ℕ) (c : Message) → IsBlock j n c → (f : Fills c) → fill_tree f.values j ≡ Some (fill_all f.values j) }
 {}
 
 ghost use Rattle.std.specs.Prelude.{[], ◌∷◌};

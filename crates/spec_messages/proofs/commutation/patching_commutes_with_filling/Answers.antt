@@ -20,8 +20,8 @@ returns c = record {
   stands = λ s f h.
       (chain_stands s.policy s.mapping s.holes s.entries s.before s.clear s.after s.patched f.values f.full _ s.block s.applied f.is (tree-there s.before s.holes s.clear f.values f.full s.block f.is) h).3;
   place = λ s i l. one-place s.before s.holes s.clear i s.block l;
-  value_before = λ s f p i h. (value-stands f.values s.clear f.full p i f.is h).0;
-  value_after = λ s f p i h. (value-stays-chain s.policy s.mapping s.holes s.entries s.before s.clear s.after s.patched f.values f.full p i s.block s.applied f.is h).1;
+  value_before = λ s f h. (value-stands f.values s.clear f.full h.place h.index f.is h.stands).0;
+  value_after = λ s f h. (value-stays-chain s.policy s.mapping s.holes s.entries s.before s.clear s.after s.patched f.values f.full h.place h.index s.block s.applied f.is h.stands).1;
   kept = λ s f o.
       subst (λ m. Kept s.policy s.mapping (chain_changes s) m (fill_whole f.values s.patched)) (fill_parts_of s.clear f.values f.full f.is).1
       (chain-kept s.policy s.mapping s.holes s.entries s.before s.clear s.after s.patched f.values s.block s.applied o).0;

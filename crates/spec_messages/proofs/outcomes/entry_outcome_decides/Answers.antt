@@ -1,4 +1,4 @@
-use Rattle.std.proofs.Common.{◌≡◌, ◌+◌, suc, length, sym, ap, ap₂, ◌∙◌, Err, arith}
+use Rattle.std.proofs.Common.{◌≡◌, ◌+◌, suc, length, ap, ◌∙◌, Err, arith}
 use Rattle.spec_messages.specs.Outcome.{outcome_from}
 use Rattle.spec_messages.proofs.OutcomeLemmas.{entry-made, entry-applied, entry-refused, entry-cause}
 use Rattle.spec_messages.proofs.outcomes.entry_outcome_decides.Goals as goal
