@@ -6,3 +6,4 @@ pub mod FillTexts
 pub mod FillLists
 pub mod SiteLemmas
 pub mod FitLemmas
+mod AboutLemmas

@@ -7,3 +7,4 @@ pub mod Sites
 pub mod Filling
 pub use Rattle.spec_documents.specs.Hole
 pub use Rattle.spec_documents.specs.HolePlaces
+pub mod About

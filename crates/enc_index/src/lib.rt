@@ -4,6 +4,7 @@
 mod filling;
 mod holes;
 mod line;
+mod marked;
 mod settle;
 mod site;
 mod spelling;
@@ -11,4 +12,5 @@ mod walk;
 
 pub use filling::{FillFault, fill};
 pub use holes::{Holes, HolesFault, Place, places};
+pub use marked::{goes_beneath_hole, holds_hole};
 pub use spelling::has_hole_spelling;

@@ -36,6 +36,26 @@ pub enum MessageMember {
     Headers,
 }
 
+impl MessageMember {
+    /// The name by which a refusal tells it: a member's, or `message` where the document is no object.
+    pub fn name(self) -> &'static str
+        ensures { result.now ≡ spec.member_name (member_view self) }
+    {
+        match self {
+            MessageMember::Whole => "message",
+            MessageMember::RequestLine => "requestLine",
+            MessageMember::StatusLine => "statusLine",
+            MessageMember::Method => "method",
+            MessageMember::Scheme => "scheme",
+            MessageMember::Authority => "authority",
+            MessageMember::Path => "path",
+            MessageMember::ProtocolVersion => "protocolVersion",
+            MessageMember::QueryFragment => "queryFragment",
+            MessageMember::Headers => "headers",
+        }
+    }
+}
+
 /// Why a document isn't read to a message.
 #[derive(Clone, Copy, Debug, PartialEq, Eq, Drop, Error)]
 pub enum MessageRead {

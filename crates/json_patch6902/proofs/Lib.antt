@@ -1,4 +1,4 @@
-mod DepthLemmas
+pub mod DepthLemmas
 mod TreesKept
 mod PutBack
 mod ReadLists

@@ -39,6 +39,25 @@ pub enum JweMember {
     Whole,
 }
 
+impl JweMember {
+    /// The name by which a refusal tells it: a member's, or `reformattedData` for the whole.
+    pub fn name(self) -> &'static str
+        ensures { result.now ≡ member_name self }
+    {
+        match self {
+            JweMember::Protected => "protected",
+            JweMember::Aad => "aad",
+            JweMember::Iv => "iv",
+            JweMember::Ciphertext => "ciphertext",
+            JweMember::Tag => "tag",
+            JweMember::EncryptedKey => "encrypted_key",
+            JweMember::Unprotected => "unprotected",
+            JweMember::Header => "header",
+            JweMember::Whole => "reformattedData",
+        }
+    }
+}
+
 /// Why a node isn't read to a JWE.
 #[derive(Clone, Copy, Debug, PartialEq, Eq, Drop)]
 pub enum JweRead {

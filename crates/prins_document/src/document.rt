@@ -8,7 +8,7 @@ ghost use Rattle.n32_values.specs.View.{tree_of};
 ghost use Rattle.spec_sealing.specs.Received.{entries_in, metadata_of, parts_of, received};
 ghost use Rattle.block_forms.specs.Metadata.{meta_view};
 ghost use Rattle.jwe_flat.specs.View.{jwe_view};
-ghost use Rattle.prins_document.specs.View.{entries_of, part_told, parts_view, wire_view};
+ghost use Rattle.prins_document.specs.View.{entries_of, part_name, part_told, parts_view, wire_view};
 
 use crate::block::{Block, id_of, kind_of, read_block};
 use crate::data::{data_in, members_in, read_data};
@@ -47,6 +47,20 @@ pub enum WireMember {
     Block,
     /// `modificationsBlock` is there and is neither null nor a list of at most two entries.
     ModificationsBlock,
+}
+
+impl WireMember {
+    /// The name by which a refusal tells it.
+    pub fn name(self) -> &'static str
+        ensures { result.now ≡ part_name self }
+    {
+        match self {
+            WireMember::Document => "document",
+            WireMember::Jwe(member) => member.name(),
+            WireMember::Block => "aad",
+            WireMember::ModificationsBlock => "modificationsBlock",
+        }
+    }
 }
 
 /// Why a document isn't read.

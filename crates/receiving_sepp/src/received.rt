@@ -11,35 +11,14 @@ ghost use Rattle.receiving_sepp.specs.Refusing.{told};
 use crate::faults::CheckFault;
 use crate::refused::Refused;
 use http_message::Kind;
-use jwe_flat::JweMember;
 use n32_values::{Doc, NoMemory, Text};
 use prins_document::{WireDoc, WireMember, WireRead, entries, read_wire_doc};
 use std::alloc::Global;
 
-// The name by which a member is told.
-fn word_of(member: WireMember) -> &'static str
-    ensures { result.now ≡ part_name member }
-{
-    match member {
-        WireMember::Document => "document",
-        WireMember::Jwe(JweMember::Whole) => "reformattedData",
-        WireMember::Jwe(JweMember::Protected) => "protected",
-        WireMember::Jwe(JweMember::Aad) => "aad",
-        WireMember::Jwe(JweMember::Iv) => "iv",
-        WireMember::Jwe(JweMember::Ciphertext) => "ciphertext",
-        WireMember::Jwe(JweMember::Tag) => "tag",
-        WireMember::Jwe(JweMember::EncryptedKey) => "encrypted_key",
-        WireMember::Jwe(JweMember::Unprotected) => "unprotected",
-        WireMember::Jwe(JweMember::Header) => "header",
-        WireMember::Block => "aad",
-        WireMember::ModificationsBlock => "modificationsBlock",
-    }
-}
-
 fn out_of_form(alloc: Global, member: WireMember) -> Result<Text, NoMemory>
     ensures { IfOk result (λ t. t ≡ part_name member) }
 {
-    Text::from_text(alloc, word_of(member))
+    Text::from_text(alloc, member.name())
 }
 
 // The parts of a document, or the first member that has not its form.

@@ -2,32 +2,12 @@
 ghost use Rattle.std.specs.Prelude.{◌≡◌, IfOk};
 ghost use Rattle.std.specs.Fmt.{decimal};
 ghost use Rattle.spec_script.specs.RefusalTexts as spec;
-ghost use Rattle.http_message.specs.Reading.{member_view};
 ghost use Rattle.script_lines.specs.View.{refusal_view};
 
 use crate::refusal::Refusal;
 use block_forms::limit_name;
-use http_message::MessageMember;
 use n32_values::{NoMemory, Text};
 use std::alloc::Global;
-
-// A member's name, or `message` where the document is no object.
-fn member_name(member: MessageMember) -> &'static str
-    ensures { result.now ≡ spec.member_name (member_view member) }
-{
-    match member {
-        MessageMember::Whole => "message",
-        MessageMember::RequestLine => "requestLine",
-        MessageMember::StatusLine => "statusLine",
-        MessageMember::Method => "method",
-        MessageMember::Scheme => "scheme",
-        MessageMember::Authority => "authority",
-        MessageMember::Path => "path",
-        MessageMember::ProtocolVersion => "protocolVersion",
-        MessageMember::QueryFragment => "queryFragment",
-        MessageMember::Headers => "headers",
-    }
-}
 
 fn number_text(alloc: Global, number: u64) -> Result<Text, NoMemory>
     ensures { IfOk result (λ t. t ≡ decimal number) }
@@ -42,7 +22,7 @@ pub(crate) fn detail_text(alloc: Global, refusal: &Refusal) -> Result<Option<Tex
     let text = match refusal {
         Refusal::Event(member) => Text::from_text(alloc, member)?,
         Refusal::Limit(limit) => Text::from_text(alloc, limit_name(*limit))?,
-        Refusal::Message(member) => Text::from_text(alloc, member_name(*member))?,
+        Refusal::Message(member) => Text::from_text(alloc, member.name())?,
         Refusal::PolicyForm(mapping) => number_text(alloc, u64::from(*mapping))?,
         Refusal::Sending(fault) => return fault.detail(alloc),
         Refusal::Receiving(refused) => return refused.detail(alloc),

@@ -95,6 +95,19 @@ pub data Member : Type 0 where
   query : Member
   headers : Member
 
+-- a member's name, or `message` where the document is no object
+abbrev pub member_name : Member → List ℕ
+member_name no_object = codes "message"
+member_name request_line = codes "requestLine"
+member_name status_line = codes "statusLine"
+member_name method = codes "method"
+member_name scheme = codes "scheme"
+member_name authority = codes "authority"
+member_name path = codes "path"
+member_name version = codes "protocolVersion"
+member_name query = codes "queryFragment"
+member_name headers = codes "headers"
+
 abbrev pub wanted : {A E : Type 0} → Option A → E → Result A E
 wanted None e = Err e
 wanted (Some x) e = Ok x

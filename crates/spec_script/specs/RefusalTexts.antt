@@ -1,26 +1,13 @@
 -- How the refusals of a script are told: their numbers, names and details (this project's own). Those of sending, of receiving and of the outside are told by their own tables.
-use Rattle.std.specs.Prelude.{ℕ, List, codes}
+use Rattle.std.specs.Prelude.{codes}
 use Rattle.std.specs.Fmt.{decimal}
-use Rattle.spec_messages.specs.Message.{Member, no_object, request_line, status_line, method, scheme, authority, path, version, query, headers}
+use Rattle.spec_messages.specs.Message.{member_name}
 use Rattle.spec_messages.specs.Limits.{limit_name}
 use Rattle.spec_exchange.specs.Telling.{Telling, bare, detailed}
 use Rattle.spec_exchange.specs.ReceivingRefusals as receiving
 use Rattle.spec_exchange.specs.SendingRefusals as sending
 use Rattle.spec_exchange.specs.Outside.{fault_telling}
 use Rattle.spec_script.specs.Refusals.{Refusal, Syntax, OtherNumber, BadEvent, NodeUnknown, NodeExists, WireUnknown, Beyond, KeysTwice, ContextNotFound, BadMessage, DeepBody, BadPolicy, ContextUsed, NotBuilt, OfSending, OfReceiving, OfOutside}
-
--- a member's name, or `message` where the document is no object
-abbrev pub member_name : Member → List ℕ
-member_name no_object = codes "message"
-member_name request_line = codes "requestLine"
-member_name status_line = codes "statusLine"
-member_name method = codes "method"
-member_name scheme = codes "scheme"
-member_name authority = codes "authority"
-member_name path = codes "path"
-member_name version = codes "protocolVersion"
-member_name query = codes "queryFragment"
-member_name headers = codes "headers"
 
 abbrev pub telling : Refusal → Telling
 telling Syntax = bare 1 (codes "SYNTAX")

@@ -7,7 +7,6 @@ use crate::args::{Args, number_of};
 use crate::given::Given;
 use crate::nodes::{fault_node, map_node, put_part, text_node};
 use crate::values::{digits_node, words_of};
-use crate::wires::part_word;
 use ipx_node::{IpxConfig, PassFault, pass_on};
 use jws_flat::{
     Entry, EntryMember, FlatJws, Hs256, JwsRead, SignFault, VerifyFault, hmac_sha256, read_entry,
@@ -297,7 +296,7 @@ fn passed(alloc: Global, mut signer: FailAt<Hs256>, doc: &Doc, config: &IpxConfi
     }
     match pass_on(alloc, doc, config, &mut signer) {
         Ok(doc) => Some(doc.into_node()),
-        Err(PassFault::Form(part)) => fault_node(alloc, part_word(part)),
+        Err(PassFault::Form(part)) => fault_node(alloc, part.name()),
         Err(PassFault::Signer) => fault_node(alloc, "SIGNER"),
         Err(PassFault::NoMemory) => None,
     }

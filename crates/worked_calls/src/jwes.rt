@@ -4,7 +4,7 @@ use crate::keys::{block_of, key_of, nonce_of};
 use crate::nodes::{fault_node, text_node};
 use crate::values::words_of;
 use jwe_flat::{
-    CipherWhy, ContentKey, FlatJwe, JweMember, JweOpen, JweRead, jwe_doc, open_jwe, read_jwe,
+    CipherWhy, ContentKey, FlatJwe, JweOpen, JweRead, jwe_doc, open_jwe, read_jwe,
     seal_jwe,
 };
 use n32_values::{Node, Text, read_base64url};
@@ -35,25 +35,11 @@ pub fn seal_jwe_call(alloc: Global, args: Args<'_>) -> Option<Node> {
     sealed(alloc, key_of(args.text("key")?)?, nonce, block, values)
 }
 
-pub fn member_word(member: JweMember) -> &'static str {
-    match member {
-        JweMember::Protected => "protected",
-        JweMember::Aad => "aad",
-        JweMember::Iv => "iv",
-        JweMember::Ciphertext => "ciphertext",
-        JweMember::Tag => "tag",
-        JweMember::EncryptedKey => "encrypted_key",
-        JweMember::Unprotected => "unprotected",
-        JweMember::Header => "header",
-        JweMember::Whole => "reformattedData",
-    }
-}
-
 /// The document of the JWE that `jwe` is read to, or the first bad member.
 pub fn read_jwe_call(alloc: Global, args: Args<'_>) -> Option<Node> {
     match read_jwe(alloc, args.document("jwe")?) {
         Ok(jwe) => written(alloc, jwe),
-        Err(JweRead::Form(member)) => fault_node(alloc, member_word(member)),
+        Err(JweRead::Form(member)) => fault_node(alloc, member.name()),
         Err(JweRead::NoMemory) => None,
     }
 }

@@ -1,25 +1,15 @@
 // The calls of `prins_document`.
 use crate::args::Args;
 use crate::given::Given;
-use crate::jwes::member_word;
 use crate::nodes::{count_node, fault_node, map_node, put_part, text_node};
 use crate::values::words_of;
 use http_message::Kind;
 use n32_values::{Node, NodeList, NodeMap, copy_doc};
 use prins_document::{
-    ValuesRead, WireDoc, WireMember, WireRead, entries, read_values, read_wire_doc, values_text,
+    ValuesRead, WireDoc, WireRead, entries, read_values, read_wire_doc, values_text,
     wire_doc,
 };
 use std::alloc::Global;
-
-pub fn part_word(part: WireMember) -> &'static str {
-    match part {
-        WireMember::Document => "document",
-        WireMember::Jwe(member) => member_word(member),
-        WireMember::Block => "block",
-        WireMember::ModificationsBlock => "modificationsBlock",
-    }
-}
 
 fn kind_word(kind: Kind) -> &'static str {
     match kind {
@@ -57,7 +47,7 @@ fn whole_node(alloc: Global, whole: WireDoc) -> Option<Node> {
 pub fn read_wire_doc_call(alloc: Global, given: &Given) -> Option<Node> {
     match read_wire_doc(alloc, given.wire.as_ref()?) {
         Ok(whole) => whole_node(alloc, whole),
-        Err(WireRead::Form(part)) => fault_node(alloc, part_word(part)),
+        Err(WireRead::Form(part)) => fault_node(alloc, part.name()),
         Err(WireRead::NoMemory) => None,
     }
 }

@@ -1,0 +1,4 @@
+mod PlaceLists
+mod Fronts
+mod Results
+mod Entries

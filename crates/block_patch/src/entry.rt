@@ -1,0 +1,144 @@
+// An entry's operations, in order.
+ghost use Rattle.std.specs.Prelude.{◌≡◌, ◌≤◌, ◌<◌, ℕ, List, None, Ok, IfOk, length, map};
+ghost use Rattle.spec_documents.specs.Hole.{places as places_of};
+ghost use Rattle.spec_messages.specs.Message as spec;
+ghost use Rattle.spec_messages.specs.Block.{IsBlock};
+ghost use Rattle.spec_messages.specs.Fault.{block_fault};
+ghost use Rattle.spec_messages.specs.Outcome.{entry_outcome};
+ghost use Rattle.http_message.specs.Reading.{message_view};
+ghost use Rattle.json_patch6902.specs.View.{op_view};
+ghost use Rattle.block_patch.specs.Answers.{Applies, Runs, Numbers};
+
+use crate::fault::{EntryFault, StepFault};
+use crate::step::{Patched, Rules, step};
+use block_forms::{Block, clear_message};
+use enc_index::{Holes, HolesFault, places};
+use json_patch6902::OpList;
+use n32_values::{Doc, NoMemory, Text};
+use policy_tables::Policy;
+use spec_messages::blocks::{block_has_one_message, each_index_has_one_place, fault_decides};
+use spec_messages::commutation::patching_commutes_with_filling;
+use spec_messages::outcomes::{entry_outcome_decides, operation_outcome_decides};
+use std::alloc::Global;
+
+fn numbered(i: usize, fault: StepFault) -> EntryFault
+    requires { i < 64 }
+    ensures { Numbers (i + 1) fault result }
+{
+    match fault {
+        StepFault::Why(why) => EntryFault::Operation(i as u32 + 1, why),
+        StepFault::NoMemory => EntryFault::NoMemory,
+    }
+}
+
+// What the operations make of a block with the holes, in order.
+fn all_steps(
+    alloc: Global,
+    rules: Rules<'_>,
+    holes: &Holes,
+    start: Patched,
+    operations: &OpList,
+) -> Result<Patched, EntryFault>
+    requires few { length operations.now ≤ 64 }
+    requires block { IsBlock start.doc rules.holes (message_view start.message) }
+    requires holes { places_of start.doc rules.holes ≡ Ok holes.now }
+    ensures outcome { Runs (entry_outcome rules.policy.now rules.mapping rules.ipx.now rules.holes start.doc (message_view start.message) (map op_view operations.now)) result }
+    ensures block { IfOk result (λ p. IsBlock p.doc rules.holes (message_view p.message)) }
+{
+    operation_outcome_decides();
+    let mut current = start;
+    for i in 0..operations.len() {
+        match step(alloc, rules, holes, &current, operations.item(i)) {
+            Ok(next) => current = next,
+            Err(fault) => return Err(numbered(i, fault)),
+        }
+    }
+    Ok(current)
+}
+
+// The places of the holes of a block.
+fn holes_of(alloc: Global, block: &Doc, count: u32) -> Result<Holes, NoMemory>
+    requires { block_fault block.now count ≡ None }
+    ensures { IfOk result (λ holes. places_of block.now count ≡ Ok holes) }
+{
+    match places(alloc, block, count) {
+        Ok(holes) => Ok(holes),
+        Err(HolesFault::NoMemory) => Err(NoMemory),
+        Err(_) => unreachable!(),
+    }
+}
+
+// A copy of a block, with the message that it stands for.
+fn opened(alloc: Global, block: &Block, count: u32) -> Result<Patched, NoMemory>
+    requires { block_fault block.now count ≡ None }
+    ensures value { IfOk result (λ p. p.doc ≡ block.now) }
+    ensures block { IfOk result (λ p. IsBlock p.doc count (message_view p.message)) }
+{
+    block_has_one_message();
+    let _known = block.doc().node();
+    let message = clear_message(alloc, block)?;
+    match block.doc().copy(alloc) {
+        Ok(doc) => Ok(Patched { doc, message }),
+        Err(refused) => Err(refused),
+    }
+}
+
+// What the operations make of a copy of the block.
+fn patched(
+    alloc: Global,
+    rules: Rules<'_>,
+    block: &Block,
+    operations: &OpList,
+) -> Result<Patched, EntryFault>
+    requires few { length operations.now ≤ 64 }
+    requires block { block_fault block.now rules.holes ≡ None }
+    ensures outcome { (c : spec.Message) → IsBlock block.now rules.holes c → Runs (entry_outcome rules.policy.now rules.mapping rules.ipx.now rules.holes block.now c (map op_view operations.now)) result }
+    ensures block { IfOk result (λ p. IsBlock p.doc rules.holes (message_view p.message)) }
+{
+    block_has_one_message();
+    let Ok(holes) = holes_of(alloc, block.doc(), rules.holes) else {
+        return Err(EntryFault::NoMemory);
+    };
+    match opened(alloc, block, rules.holes) {
+        Ok(start) => all_steps(alloc, rules, &holes, start, operations),
+        Err(_) => Err(EntryFault::NoMemory),
+    }
+}
+
+/// Applies the operations of an entry to a block, in order, where each is allowed to the intermediary under
+/// the policy's mapping (TS 33.501 clause 13.2.4.5 in outline). There are at most 64 operations, and no
+/// operation changes nothing.
+///
+/// # Errors
+/// The number of the first operation, from 1, that isn't allowed, with the first reason in the order of
+/// `OpWhy`. After every refusal, want of memory too, the block is as before.
+pub fn apply_entry(
+    alloc: Global,
+    block: &mut Block,
+    operations: &OpList,
+    policy: &Policy,
+    mapping: Option<u32>,
+    ipx: &Text,
+) -> Result<(), EntryFault>
+    requires { length operations.now ≤ 64 }
+    ensures { (n : ℕ) (c : spec.Message) → IsBlock block.old n c → Applies (entry_outcome policy.now mapping ipx.now n block.old c (map op_view operations.now)) (map op_view operations.now) block.old c block.new result }
+{
+    fault_decides();
+    block_has_one_message();
+    each_index_has_one_place();
+    entry_outcome_decides();
+    patching_commutes_with_filling();
+    let rules = Rules {
+        policy,
+        mapping,
+        ipx,
+        holes: block.holes(),
+    };
+    match patched(alloc, rules, block, operations) {
+        Ok(Patched { doc, .. }) => {
+            *block = Block::of_doc(doc, rules.holes);
+            Ok(())
+        }
+        Err(fault) => Err(fault),
+    }
+}
