@@ -39,9 +39,18 @@ def parts(value):
             pass
 
 
+def document_text(line):
+    """One text for all lines that are of one document; a line that is of none is its own."""
+    try:
+        return json.dumps(json.loads(line), sort_keys=True)
+    except ValueError:
+        return line
+
+
 def stored():
+    """The text of each document of the stored runs and examples, and of their parts."""
     names = glob.glob(os.path.join(TOP, "crates", "*", "std[io]*"))
-    for name in names + glob.glob(os.path.join(TOP, "examples", "*.jsonl")):
+    for name in names + glob.glob(os.path.join(TOP, "examples", "*.jsonl")) + glob.glob(os.path.join(TOP, "examples", "*.answers")):
         with open(name, encoding="utf-8", errors="replace") as lines:
             for line in lines:
                 try:
@@ -50,18 +59,24 @@ def stored():
                     pass
 
 
-def main():
+def missing(lines):
+    """Of lines, each with its page and number, the page and number of those that no stored run has."""
     wanted = {}
-    for number, line in examples():
-        wanted.setdefault(json.dumps(json.loads(line), sort_keys=True), number)
-    missing = dict(wanted)
+    for page, number, line in lines:
+        wanted.setdefault(document_text(line), (page, number))
     for text in stored():
-        missing.pop(text, None)
-    for number in sorted(missing.values()):
-        print(f"docs/FORMATS.md:{number}: in no stored run")
-    if not wanted or missing:
+        wanted.pop(text, None)
+    return sorted(wanted.values())
+
+
+def main():
+    lines = [("docs/FORMATS.md", number, line) for number, line in examples()]
+    found = missing(lines)
+    for page, number in found:
+        print(f"{page}:{number}: in no stored run")
+    if not lines or found:
         sys.exit(1)
-    print(f"ok: {len(wanted)} examples")
+    print(f"ok: {len(lines)} examples")
 
 
 if __name__ == "__main__":
