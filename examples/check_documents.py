@@ -131,12 +131,12 @@ def play(folder):
 
 
 def keep_answers(folder, out, err):
-    """Keeps what `rt try --cases` printed: `== NAME` and a case's output, and a line for each status."""
+    """Keeps what `rt try --cases` printed: `== NAME` and a case's output; its text on standard error, and its status behind that."""
     os.makedirs(folder, exist_ok=True)
     texts = dict(re.findall(r"^== (\w+)\n((?:(?!== ).*\n)*)", out, re.M))
-    for name, status in re.findall(r"^case=(\w+) run=ended status=(\d+)", err, re.M):
+    for told, name, status in re.findall(r"((?:(?!case=).*\n)*)case=(\w+) run=ended status=(\d+).*\n", err):
         with open(os.path.join(folder, name), "w", encoding="utf-8") as file:
-            file.write(status + "\n" + texts.get(name, ""))
+            file.write(status + "\n" + texts.get(name, "") + told)
 
 
 def check_console(program):
