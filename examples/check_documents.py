@@ -3,8 +3,8 @@
 
     examples/check_documents.py [PROGRAM]
 
-PROGRAM is the proved program, as crates/n32_replay/out/n32_replay. Without it `rt try` plays the scripts, unproved, which takes some
-minutes. What is looked at, by the kind of a block of a page:
+PROGRAM is the proved program, as crates/n32_replay/out/n32_replay. Without it stand_in.py has `rt try` play the scripts, unproved, which
+takes some minutes. What is looked at, by the kind of a block of a page:
 
     json     each line is, as a document, a line of a stored run or of examples/, a part of one, or a text in one
     console  each `$ COMMAND` is run in a copy of examples/, page by page, and prints the lines that follow it
@@ -14,7 +14,6 @@ minutes. What is looked at, by the kind of a block of a page:
 Files that a page names are there, each event and each refusal of the program has a row, and README.md has the text of each status.
 Prints a line for each kind, or for each example that fails, and then ends with 1."""
 import glob
-import hashlib
 import os
 import re
 import shutil
@@ -26,22 +25,6 @@ import check_formats
 
 TOP = check_formats.TOP
 PAGES = ["README.md"] + sorted(os.path.relpath(page, TOP) for page in glob.glob(os.path.join(TOP, "docs", "*.md")))
-
-# What stands for the program while no proved one is at hand: it gives what `rt try` gave for these words and this input, or asks for it.
-STAND_IN = """#!/usr/bin/env python3
-import hashlib, os, sys
-words, script = sys.argv[1:], sys.stdin.buffer.read()
-name = hashlib.sha256(script).hexdigest()
-folder = os.path.join(os.environ["ASKED"], ",".join(words))
-answers = os.path.join(folder, "answers", name)
-if not os.path.exists(answers):
-    os.makedirs(os.path.join(folder, "cases"), exist_ok=True)
-    open(os.path.join(folder, "cases", name), "wb").write(script)
-    sys.exit(0)
-status, text = open(answers).read().split("\\n", 1)
-sys.stdout.write(text)
-sys.exit(int(status))
-"""
 
 failures = 0
 
@@ -106,7 +89,7 @@ def run_commands(folder, programs):
     shutil.rmtree(os.path.join(folder, "examples"), ignore_errors=True)
     shutil.copytree(os.path.join(TOP, "examples"), os.path.join(folder, "examples"))
     path = programs + os.pathsep + os.environ["PATH"]
-    how = dict(os.environ, PATH=path, ASKED=os.path.join(folder, "asked"), LC_ALL="C")
+    how = dict(os.environ, PATH=path, TOP=TOP, ASKED=os.path.join(folder, "asked"), LC_ALL="C")
     wrong = []
     for page, first, lines in of_kind("console"):
         for command, wanted in commands(lines):
@@ -147,9 +130,7 @@ def check_console(program):
         if program:
             os.symlink(os.path.abspath(program), os.path.join(programs, "n32_replay"))
         else:
-            with open(os.path.join(programs, "n32_replay"), "w", encoding="utf-8") as file:
-                file.write(STAND_IN)
-            os.chmod(file.name, 0o755)
+            shutil.copy(os.path.join(TOP, "examples", "stand_in.py"), os.path.join(programs, "n32_replay"))
         wrong = run_commands(folder, programs)
         while not program and play(folder):
             wrong = run_commands(folder, programs)
@@ -200,8 +181,9 @@ def check_files():
 
 def pairs(source):
     """The number and the name of each refusal of a source file."""
-    numbers = dict(re.findall(r"(\w+::\w+)(?:\(_\))? => (\d+),", source))
-    names = dict(re.findall(r"(\w+::\w+)(?:\(_\))? => \"([A-Z_0-9]+)\",", source))
+    variant = r"(\w+::\w+)(?:\([^)]*\)| \{[^}]*\})?"
+    numbers = dict(re.findall(variant + r" => (\d+),", source))
+    names = dict(re.findall(variant + r' => "([A-Z_0-9]+)",', source))
     return {(numbers[variant], name) for variant, name in names.items() if variant in numbers}
 
 
