@@ -21,7 +21,8 @@ import subprocess
 import sys
 import tempfile
 
-import check_formats
+sys.dont_write_bytecode = True
+import check_formats  # noqa: E402
 
 TOP = check_formats.TOP
 PAGES = ["README.md"] + sorted(os.path.relpath(page, TOP) for page in glob.glob(os.path.join(TOP, "docs", "*.md")))

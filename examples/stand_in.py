@@ -49,7 +49,8 @@ def over_journal(words, script):
         crate = os.path.join(TOP, "crates", "n32_replay")
         done = subprocess.run(["rt", "try", "--", words[0], journal], cwd=crate, input=script, stdout=subprocess.PIPE, stderr=subprocess.PIPE)
         write(kept + ".left", read(journal))
-        write(kept, str(done.returncode).encode() + b"\n" + done.stdout)
+        told = [line for line in done.stderr.splitlines(keepends=True) if not line.startswith((b"checked: ", b"run="))]
+        write(kept, str(done.returncode).encode() + b"\n" + done.stdout + b"".join(told))
     write(journal, read(kept + ".left"))
     return answer(kept)
 
