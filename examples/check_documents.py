@@ -45,13 +45,13 @@ def blocks(page):
     """Each block of a page: its kind, the number of its first line, and its lines."""
     kind, first, lines = None, 0, []
     for number, line in enumerate(read(page).splitlines(), 1):
-        if not line.startswith("```"):
-            lines.append(line)
-        elif kind is None:
+        if kind is None and line.startswith("```"):
             kind, first, lines = line[3:].strip(), number + 1, []
-        else:
+        elif kind is not None and line.startswith("```"):
             yield kind, first, lines
             kind = None
+        elif kind is not None:
+            lines.append(line)
 
 
 def of_kind(wanted):
