@@ -15,7 +15,7 @@ returns-in_ok-line-in-Request-clause-block c =
     let pol = c.args.policy.now in
     let k = c.args.mapping in
     let m = message_view (Request c.in-Request.request) in
-    let is = assembled_block pol k m (meta_view c.args.meta.now) c.hidden_line.new.values _ c.in_ok-line-in-Request.ensures.values c.in_ok-line-in-Request.ensures.line
+    let is = assembled_block pol k m (meta_view c.args.meta.now) c.hidden_line.new.values _ lined_values lined
     ∙ ap (λ x. sent_block pol k (message_view x) (meta_view c.args.meta.now)) (sym c.in-Request.is) in
     subst (λ (t : Tree). IfOk c.sent_after.result (λ s. tree_of s.block ≡ t)) is c.sent_after.ensures.block
 
@@ -24,7 +24,7 @@ returns-in_ok-line-in-Request-clause-items c =
     let pol = c.args.policy.now in
     let k = c.args.mapping in
     let m = message_view (Request c.in-Request.request) in
-    let is = assembled_items pol k m c.hidden_line.new.values c.in_ok-line-in-Request.ensures.values ∙ ap (λ x. length (body_leaves (cleared pol k (message_view x)).body)) (sym c.in-Request.is) in
+    let is = assembled_items pol k m c.hidden_line.new.values lined_values ∙ ap (λ x. length (body_leaves (cleared pol k (message_view x)).body)) (sym c.in-Request.is) in
     subst (λ (n : ℕ). IfOk c.sent_after.result (λ s. s.items ≡ n)) is c.sent_after.ensures.items
 
 pub returns-in_ok-line-in-Request-clause-values : goal.returns-in_ok-line-in-Request-clause-values
@@ -32,7 +32,7 @@ returns-in_ok-line-in-Request-clause-values c =
     let pol = c.args.policy.now in
     let k = c.args.mapping in
     let m = message_view (Request c.in-Request.request) in
-    let is = assembled_values pol k m c.hidden_line.new.values c.in_ok-line-in-Request.ensures.values ∙ ap (λ x. values pol k (message_view x)) (sym c.in-Request.is) in
+    let is = assembled_values pol k m c.hidden_line.new.values lined_values ∙ ap (λ x. values pol k (message_view x)) (sym c.in-Request.is) in
     subst (λ (vs : List Tree). IfOk c.sent_after.result (λ s. s.values ≡ vs)) is c.sent_after.ensures.values
 
 pub returns-in-Response-clause-block : goal.returns-in-Response-clause-block
