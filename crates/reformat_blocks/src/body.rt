@@ -71,8 +71,12 @@ fn hidden_node(
         return hole_for(alloc, node, values);
     }
     match node {
-        Node::Items(list) => Ok(Node::Items(hidden_list(alloc, body, covering, list, pointer, values)?)),
-        Node::Members(map) => Ok(Node::Members(hidden_map(alloc, body, covering, map, pointer, values)?)),
+        Node::Items(list) => Ok(Node::Items(hidden_list(
+            alloc, body, covering, list, pointer, values,
+        )?)),
+        Node::Members(map) => Ok(Node::Members(hidden_map(
+            alloc, body, covering, map, pointer, values,
+        )?)),
         _ => copy_doc(alloc, node),
     }
 }
@@ -253,5 +257,13 @@ pub(crate) fn push_body(
 {
     let covering = body.rules.covering();
     let mut pointer = Pointer::new(alloc);
-    push_items(alloc, body, covering, body.root, &mut pointer, items, values)
+    push_items(
+        alloc,
+        body,
+        covering,
+        body.root,
+        &mut pointer,
+        items,
+        values,
+    )
 }
