@@ -1,3 +1,7 @@
+pub mod AcceptIsolationLemmas
+pub mod AcceptLemmas
+pub mod AcceptRunLemmas
+pub mod AcceptUntouchedLemmas
 pub mod ChainLemmas
 pub mod HiddenLemmas
 pub mod IsolationLemmas
