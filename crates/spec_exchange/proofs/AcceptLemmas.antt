@@ -73,7 +73,7 @@ pub fill-is : (o : Option FillFault) (x m : Message) → unless_fault o x ≡ Ok
 fill-is None x m e = cc
 fill-is (Some why) x m e = cc
 
-refused_ok : {A D E : Type 0} (f : D → E) (r : Result A D) (x : A) → or_refused f r ≡ Ok x → r ≡ Ok x
+pub refused_ok : {A D E : Type 0} (f : D → E) (r : Result A D) (x : A) → or_refused f r ≡ Ok x → r ≡ Ok x
 refused_ok f (Ok y) x e = cc
 refused_ok f (Err d) x e = cc
 

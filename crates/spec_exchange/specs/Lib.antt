@@ -22,3 +22,4 @@ pub mod AcceptCalls
 pub mod AcceptRuns
 pub mod AcceptIsolation
 pub mod AcceptUntouched
+pub mod AcceptDelivered
