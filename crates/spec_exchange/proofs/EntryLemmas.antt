@@ -4,28 +4,34 @@ use Rattle.std.specs.Prelude.{not, bytes_eq}
 use Rattle.std.proofs.lemmas.Slice.Eq.{bytes_eq-Decides}
 use Rattle.spec_documents.specs.Tree.{Tree, is_ordered}
 use Rattle.spec_documents.specs.Patch.{Op}
-use Rattle.spec_messages.specs.Message.{Message, wanted}
+use Rattle.spec_messages.specs.Message.{Message, Kind, of_request, of_response, wanted}
 use Rattle.spec_messages.specs.Policy.{Policy}
 use Rattle.spec_messages.specs.Block.{IsBlock, clear_message}
 use Rattle.spec_messages.specs.Fault.{BlockFault, block_fault, deep}
 use Rattle.spec_messages.specs.Entry.{OpWhy, Allowed, EntryApplied}
 use Rattle.spec_messages.specs.Outcome.{entry_outcome, Ground, entry_on, AppliedOn}
 use Rattle.spec_messages.specs.Changed.{ChainApplied}
+use Rattle.spec_messages.specs.Rebuilt.{FillFault, fill_fault}
+use Rattle.spec_messages.specs.Split.{filled, fill_whole}
+use Rattle.spec_records.specs.Records.{Record, mapping_sent}
+use Rattle.spec_documents.proofs.Chains.{bind_at, bind_err}
 use Rattle.spec_sealing.specs.Entries.{Entry, SignedEntry, entry_in, entry_ops}
 use Rattle.spec_sealing.specs.Plaintext.{values_of}
 use Rattle.spec_exchange.specs.Chain.{◌>>=◌, unless, or_refused}
-use Rattle.spec_exchange.specs.Rebuilding.{no_values, no_block, no_fill, of_block, read_block, filled_with}
+use Rattle.spec_exchange.specs.Rebuilding.{no_values, no_block, no_fill, of_block, read_block, unless_fault, filled_with}
 use Rattle.spec_exchange.specs.ReceivingRefusals as receiving
 use Rattle.spec_exchange.specs.ReceivingRefusals.{Reconstruction}
 use Rattle.spec_exchange.specs.FirstFailed.{Rebuilt, rebuilt}
 use Rattle.spec_exchange.specs.Route.{in_route}
 use Rattle.spec_exchange.specs.EntryRefusals.{EntryRefusal, BadForm, OffRoute, VerifierFailed, BadSignature, OtherTag, NotAllowed}
-use Rattle.spec_exchange.specs.AcceptRefusals.{Refusal, OfEntry}
-use Rattle.spec_exchange.specs.EntryChecks.{Claim, Verdict, Signed, NotSigned, Fails, Verifying, Terms, Progress, claim_of, is_signed, bound_entry, not_allowed, applied, entry_applied, entries_from}
+use Rattle.spec_exchange.specs.AcceptRefusals.{Refusal, OfEntry, Unasked, Screened}
+use Rattle.spec_exchange.specs.EntryChecks.{Claim, Verdict, Signed, NotSigned, Fails, Verifying, verdict_of, by_meaning, Terms, Progress, claim_of, is_signed, bound_entry, not_allowed, applied, entry_applied, entries_from}
 use Rattle.spec_exchange.specs.AcceptDelivered.{IsBound, AreBound, changes}
-use Rattle.spec_exchange.specs.Accepting.{sealed_values}
+use Rattle.spec_exchange.specs.Accepting.{stage, sealed_values, terms_of, first_failed}
+use Rattle.spec_exchange.specs.Asked.{asked_for, mapping_by}
+use Rattle.spec_exchange.specs.Screens.{Passes}
 use Rattle.spec_exchange.proofs.ChainLemmas.{bind_then, unless_ok, wanted_ok, ok_same}
-use Rattle.spec_exchange.proofs.AcceptLemmas.{refused_ok, sealed_values-is}
+use Rattle.spec_exchange.proofs.AcceptLemmas.{refused_ok, sealed_values-is, fill-is}
 
 pub not_not : (b : Bool) → not b ≡ false → b ≡ true
 not_not true e = refl
@@ -116,3 +122,108 @@ rebuilt-block back j plain m ordered e =
     let listed = sealed_values-is plain vs (wanted_ok _ _ vs e_values) in
     let P : Rebuilt → Type 0 = λ m. IsBlock j (length (sealed_values plain)) m.holed in
     subst P (ok_same {E = receiving.Refusal} _ m e3) (subst (λ ws. IsBlock j (length ws) holed) (sym listed) (back j (length vs) holed ordered r.0 r.1))
+
+fault-none : (o : Option FillFault) (x m : Message) → unless_fault o x ≡ Ok m → o ≡ None
+fault-none None x m e = refl
+fault-none (Some why) x m e = cc
+
+-- the values fill it
+pub rebuilt-filled : (none : (vs : List Tree) (m : Message) → fill_fault vs m ≡ None → filled vs m ≡ Some (fill_whole vs m))
+    → (j : Tree) (plain : List ℕ) (m : Rebuilt) → rebuilt j plain ≡ Ok m → filled (sealed_values plain) m.holed ≡ Some m.content
+rebuilt-filled none j plain m e =
+    bind_then _ _ m e λ vs e_values e1.
+    bind_then _ _ m e1 λ holed e_block e2.
+    bind_then _ _ m e2 λ content e_fill e3.
+    let made = refused_ok _ (filled_with vs holed) content e_fill in
+    let listed = sealed_values-is plain vs (wanted_ok _ _ vs e_values) in
+    let P : Rebuilt → Type 0 = λ m. filled (sealed_values plain) m.holed ≡ Some m.content in
+    subst P (ok_same {E = receiving.Refusal} _ m e3)
+    (ap (λ ws. filled ws holed) listed ∙ (none vs holed (fault-none (fill_fault vs holed) (fill_whole vs holed) content made) ∙ ap (λ z. Some z) (fill-is (fill_fault vs holed) (fill_whole vs holed) content made)))
+
+-- ---- the verifier's failure
+
+-- where a chain refuses, its first step does or a later one
+bind_err_then : {A B E P : Type 0} (r : Result A E) (f : A → Result B E) (e : E) → (r >>= f) ≡ Err e → (r ≡ Err e → P) → ((x : A) → r ≡ Ok x → f x ≡ Err e → P) → P
+unfolding ◌>>=◌
+bind_err_then (Ok x) f e h first later = later x refl h
+bind_err_then (Err d) f e h first later = let same : d ≡ e = cc in first (ap (λ z. Err z) same)
+
+-- a claim at which the verifier fails
+abbrev pub FailsAt : Verifying → ℕ → Type 0
+FailsAt v number = (claim : Claim) × (v number claim ≡ Fails)
+
+fails_is : (d : Verdict) → is_signed d ≡ Err VerifierFailed → d ≡ Fails
+fails_is Signed e = cc
+fails_is NotSigned e = cc
+fails_is Fails e = refl
+
+form_err : {P : Type 0} (r : Result SignedEntry (List ℕ)) → or_refused BadForm r ≡ Err VerifierFailed → P
+form_err (Ok x) e = cc
+form_err (Err m) e = cc
+
+unless_err : {P : Type 0} (b : Bool) (why : EntryRefusal) → (why ≡ VerifierFailed → P) → unless b why ≡ Err VerifierFailed → P
+unless_err true why other e = other cc
+unless_err false why other e = cc
+
+applied_err : {P : Type 0} (r : Result (Tree × Message) (ℕ × OpWhy)) → or_refused not_allowed r ≡ Err VerifierFailed → P
+applied_err (Ok x) e = cc
+applied_err (Err why) e = cc
+
+entry_fails : (t : Terms) (v : Verifying) (number : ℕ) (p : Progress) (e : Tree) → entry_applied t v number p e ≡ Err VerifierFailed → FailsAt v number
+entry_fails t v number p e h =
+    bind_err_then _ _ VerifierFailed h
+    (λ h1. bind_err_then _ _ VerifierFailed h1 (λ b. form_err (entry_in e) b) λ s e_form h2.
+    bind_err_then _ _ VerifierFailed h2 (λ b. unless_err _ OffRoute (λ z. cc) b) λ u1 e_route h3.
+    bind_err_then _ _ VerifierFailed h3 (λ b. (claim_of s, fails_is _ b)) λ u2 e_signed h4.
+    bind_err_then _ _ VerifierFailed h4 (λ b. unless_err _ OtherTag (λ z. cc) b) λ u3 e_tag h5. cc)
+    λ x e_bound h1. bind_err_then _ _ VerifierFailed h1 (λ b. applied_err _ b) λ r e_made h2. cc
+
+of_entry : {A : Type 0} (number k : ℕ) (r : Result A EntryRefusal) (why : EntryRefusal) → or_refused (OfEntry k) r ≡ Err (OfEntry number why) → (k ≡ number) × (r ≡ Err why)
+of_entry number k (Ok x) why e = cc
+of_entry number k (Err d) why e = (cc, cc)
+
+pub entries_fail : (t : Terms) (v : Verifying) (k : ℕ) (p : Progress) (es : List Tree) (number : ℕ) → entries_from t v k p es ≡ Err (OfEntry number VerifierFailed) → FailsAt v number
+entries_fail t v k p [] number h = cc
+entries_fail t v k p (e ∷ es) number h =
+    bind_err_then _ _ (OfEntry number VerifierFailed) h
+    (λ h1. let o = of_entry number k (entry_applied t v k p e) VerifierFailed h1 in subst (FailsAt v) o.0 (entry_fails t v k p e o.1))
+    λ q e_made h1. entries_fail t v (suc k) q es number h1
+
+-- a stage before or behind the entries
+stage_err : {A P : Type 0} (number : ℕ) (r : Result A receiving.Refusal) → stage r ≡ Err (OfEntry number VerifierFailed) → P
+stage_err number (Ok x) e = cc
+stage_err number (Err d) e = cc
+
+asked_err : {P : Type 0} (number : ℕ) (records : List Record) (node : List ℕ) (id : ℕ) (kind : Kind) (message : ℕ) → asked_for records node id kind message ≡ Err (OfEntry number VerifierFailed) → P
+asked_err number records node id of_request message e = cc
+asked_err {P} number records node id of_response message e = by (mapping_sent node id message records) refl
+  where
+    by : (o : Option (Option ℕ)) → mapping_sent node id message records ≡ o → P
+    by None h = let f = sym (bind_err _ _ Unasked (ap (λ z. wanted z Unasked) h)) ∙ e in cc
+    by (Some k) h = let f = sym (bind_at _ _ k (ap (λ z. wanted z Unasked) h)) ∙ e in cc
+
+screen_err : {P : Type 0} (number : ℕ) (b : Bool) → unless b Screened ≡ Err (OfEntry number VerifierFailed) → P
+screen_err number true e = cc
+screen_err number false e = cc
+
+pub accepting_fails : (passes : Passes) (v : Verifying) (records : List Record) (node : List ℕ) (t : Tree) (number : ℕ) → first_failed passes v records node t ≡ Err (OfEntry number VerifierFailed) → FailsAt v number
+accepting_fails passes v records node t number h =
+    let e = OfEntry number VerifierFailed in
+    bind_err_then _ _ e h (stage_err number _) λ d e_form h1.
+    bind_err_then _ _ e h1 (stage_err number _) λ k e_keys h2.
+    bind_err_then _ _ e h2 (stage_err number _) λ plain e_open h3.
+    bind_err_then _ _ e h3 (stage_err number _) λ u3 e_first h4.
+    bind_err_then _ _ e h4 (asked_err number records node d.context d.kind d.message) λ by e_asked h5.
+    bind_err_then _ _ e h5 (stage_err number _) λ m e_made h6.
+    bind_err_then _ _ e h6 (stage_err number _) λ u6 e_sealed h7.
+    bind_err_then _ _ e h7 (entries_fail (terms_of k.context d (mapping_by by k.context.policy m.content) (sealed_values plain)) v 1 (record { identities = []; block = d.block; holed = m.holed }) d.entries number) λ p e_entries h8.
+    bind_err_then _ _ e h8 (screen_err number _) λ u8 e_screen h9.
+    bind_err_then _ _ e h9 (stage_err number _) λ u9 e_room h10. cc
+
+-- a verifier that tells its meaning and fails nowhere
+meant-never : (b : Bool) → verdict_of b ≡ Fails → ⊥
+meant-never true e = cc
+meant-never false e = cc
+
+pub by_meaning-never : (meaning : Claim → Bool) (number : ℕ) → FailsAt (by_meaning meaning None) number → ⊥
+by_meaning-never meaning number f = meant-never (meaning f.0) f.1

@@ -1,8 +1,10 @@
 -- What stands behind a document that is delivered: the opened message, changed by its entries in order, each verified, authorized, bound and allowed (this project's own).
-use Rattle.std.specs.Prelude.{◌≡◌, ⊤, true, ℕ, suc, List, [], ◌∷◌, ◌++◌, length, map, Ok}
+use Rattle.std.specs.Prelude.{◌≡◌, ⊤, true, ℕ, suc, List, [], ◌∷◌, ◌++◌, length, map, Some, Ok}
 use Rattle.spec_documents.specs.Tree.{Tree}
 use Rattle.spec_messages.specs.Message.{Message}
-use Rattle.spec_messages.specs.Split.{fill_whole}
+use Rattle.spec_messages.specs.Block.{IsBlock}
+use Rattle.spec_messages.specs.Split.{fill_whole, filled}
+use Rattle.spec_messages.specs.Steps.{ChainStep, Fills}
 use Rattle.spec_messages.specs.Changed.{Entries, ChainApplied}
 use Rattle.spec_records.specs.Records.{Record}
 use Rattle.spec_sealing.specs.Entries.{SignedEntry, entry_in, entry_ops}
@@ -46,6 +48,8 @@ pub record IsDelivered (passes : Passes) (v : Verifying) (records : List Record)
   -- the opened message, which has nothing secret in clear
   pub message : Rebuilt
   pub is_rebuilt : rebuilt parts.block plain ≡ Ok message
+  pub is_block : IsBlock parts.block (length (sealed_values plain)) message.holed
+  pub is_filled : filled (sealed_values plain) message.holed ≡ Some message.content
   pub hidden : is_sealed keyed.context.policy (mapping_by by keyed.context.policy message.content) message ≡ Ok tt
   -- its entries, and what they make of the block, one after the other
   pub entries : List SignedEntry
@@ -57,3 +61,21 @@ pub record IsDelivered (passes : Passes) (v : Verifying) (records : List Record)
   pub content_is : y.content ≡ fill_whole (sealed_values plain) holed
   pub mapping_is : y.mapping ≡ mapping_by by keyed.context.policy message.content
   pub passed : passes y.content keyed.context.plmn ≡ true
+
+-- its entries as a chain on its block, with the values that fill the message
+abbrev pub chain_of : {passes : Passes} {v : Verifying} {records : List Record} {node : List ℕ} {t : Tree} {y : Delivery} → IsDelivered passes v records node t y → ChainStep
+chain_of h = record {
+  policy = h.keyed.context.policy;
+  mapping = mapping_by h.by h.keyed.context.policy h.message.content;
+  holes = length (sealed_values h.plain);
+  entries = changes h.entries;
+  before = h.parts.block;
+  clear = h.message.holed;
+  after = h.block;
+  patched = h.holed;
+  block = h.is_block;
+  applied = h.applied;
+}
+
+abbrev pub fills_of : {passes : Passes} {v : Verifying} {records : List Record} {node : List ℕ} {t : Tree} {y : Delivery} → (h : IsDelivered passes v records node t y) → Fills h.message.holed
+fills_of h = record { values = sealed_values h.plain; full = h.message.content; is = h.is_filled }

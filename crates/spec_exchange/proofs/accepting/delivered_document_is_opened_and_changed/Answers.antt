@@ -9,7 +9,7 @@ use Rattle.spec_exchange.specs.Accepting.{sealed_values, terms_of}
 use Rattle.spec_exchange.specs.AcceptDelivered.{IsDelivered}
 use Rattle.spec_exchange.proofs.ChainLemmas.{bind_then, unless_ok, ok_same}
 use Rattle.spec_exchange.proofs.AcceptLemmas.{stage_ok, form_ok}
-use Rattle.spec_exchange.proofs.EntryLemmas.{not_not, chained, rebuilt-block}
+use Rattle.spec_exchange.proofs.EntryLemmas.{not_not, chained, rebuilt-block, rebuilt-filled}
 use Rattle.spec_exchange.proofs.accepting.delivered_document_is_opened_and_changed.Goals as goal
 
 pub returns : goal.returns
@@ -41,6 +41,8 @@ returns c passes v records node t y ordered e =
       asked = e_asked;
       message = m;
       is_rebuilt = made;
+      is_block = block;
+      is_filled = rebuilt-filled c.fill_fault_decides.ensures.none d.block plain m made;
       hidden = stage_ok (is_sealed k.context.policy mapping m) u6 e_sealed;
       entries = chain.entries;
       bound = chain.bound;
