@@ -1,28 +1,27 @@
 -- A context's calls go by its own records alone, with documents of every kind.
 use Rattle.std.proofs.Common.{◌≡◌, ℕ, ◌+◌, ◌<◌, ◌≤◌, Bool, true, false, List, [], ◌∷◌, ◌++◌, length, Option, Some, None, is_some, Result, Ok, Err, refl, sym, ap, ap₂, ◌∙◌, subst, cond, arith, map}
-use Rattle.std.specs.Prelude.{bytes_eq, ◌==◌}
+use Rattle.std.specs.Prelude.{bytes_eq}
 use Rattle.std.proofs.lemmas.Bool.{eqb-true, and_parts}
 use Rattle.std.proofs.lemmas.Slice.Eq.{bytes_eq-Decides}
 use Rattle.spec_documents.specs.Tree.{Tree}
-use Rattle.spec_messages.specs.Message.{Message, Kind, of_request, of_response, wanted}
+use Rattle.spec_messages.specs.Message.{Kind, of_request, of_response, wanted}
 use Rattle.spec_records.specs.Records.{Record, is_of, own, record_limit, mapping_sent}
 use Rattle.spec_records.proofs.RecordLemmas.{own-append, own-append_other}
 use Rattle.spec_exchange.specs.Chain.{◌>>=◌, unless, none_of, or_refused}
 use Rattle.spec_sealing.specs.Received.{Received, received}
-use Rattle.spec_exchange.specs.ReceivingRefusals as receiving
 use Rattle.spec_exchange.specs.ReceivingRefusals.{Form, Replay, NoRoom}
-use Rattle.spec_exchange.specs.AcceptRefusals.{Refusal, Receiving, Unasked}
+use Rattle.spec_exchange.specs.AcceptRefusals.{Refusal, Unasked}
 use Rattle.spec_exchange.specs.SendingRefusals as sending
-use Rattle.spec_exchange.specs.FirstFailed.{Delivery, keyed_context}
+use Rattle.spec_exchange.specs.FirstFailed.{Delivery}
 use Rattle.spec_exchange.specs.Outside.{Cause, Reading, Read, ReadFails, BadRecord, Putting, Kept, Lost, KeptUntold, Outcome, puts, behind_reading, or_refusal, with_put}
-use Rattle.spec_exchange.specs.Calls.{Sealed, Outgoing, delivered_record, sent_record, protected}
+use Rattle.spec_exchange.specs.Calls.{Sealed, delivered_record, sent_record, protected}
 use Rattle.spec_exchange.specs.Runs.{Call, Deliver, Send, Puts}
 use Rattle.spec_exchange.specs.Isolation.{received_id, is_id, concerns}
-use Rattle.spec_exchange.specs.Asked.{ItsHead, ItsRequest, asked_for}
+use Rattle.spec_exchange.specs.Asked.{asked_for}
 use Rattle.spec_exchange.specs.Screens.{Passes}
 use Rattle.spec_exchange.specs.EntryChecks.{Verifying}
 use Rattle.spec_exchange.specs.Accepting.{stage, first_failed, first_failed_of}
-use Rattle.spec_exchange.specs.AcceptCalls.{Choices, accepted}
+use Rattle.spec_exchange.specs.AcceptCalls.{Choices}
 use Rattle.spec_exchange.specs.AcceptRuns.{Event, Reply, told, made, reply_of, put_of, after, replies}
 use Rattle.spec_exchange.specs.AcceptIsolation.{unnumbered_cause, unnumbered_reply, unnumbered_result, own_events, own_replies}
 use Rattle.spec_exchange.proofs.ChainLemmas.{protected-ok, puts-some}

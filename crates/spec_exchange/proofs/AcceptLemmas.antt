@@ -1,27 +1,27 @@
 -- What an accepted document tells, and that one without entries is accepted as before.
-use Rattle.std.proofs.Common.{◌≡◌, ℕ, ◌<◌, ◌≤◌, arith, Bool, true, false, List, [], ◌∷◌, length, Option, Some, None, Result, Ok, Err, refl, ap, sym, subst, ◌∙◌}
+use Rattle.std.proofs.Common.{◌≡◌, ℕ, ◌≤◌, arith, Bool, true, false, List, [], ◌∷◌, length, Option, Some, None, Result, Ok, Err, refl, ap, sym, subst, ◌∙◌}
 use Rattle.std.specs.Prelude.{nat_lt, not, unwrap_or, ◌||◌}
 use Rattle.std.proofs.lemmas.Bool.{leb-false, ltb-false}
 use Rattle.spec_documents.specs.Tree.{Tree}
 use Rattle.spec_documents.proofs.Chains.{bind_at, bind_err}
-use Rattle.spec_messages.specs.Message.{Message, Kind, of_request, of_response, wanted}
+use Rattle.spec_messages.specs.Message.{Message, Kind, of_request, of_response}
 use Rattle.spec_messages.specs.Split.{fill_whole}
 use Rattle.spec_messages.specs.Rebuilt.{FillFault, fill_fault}
 use Rattle.spec_messages.specs.HeadMapping.{mapping_of_head}
-use Rattle.spec_records.specs.Records.{Context, Record, record_limit, delivered_at}
+use Rattle.spec_records.specs.Records.{Context, Record}
 use Rattle.spec_sealing.specs.Received.{Received, received}
 use Rattle.spec_sealing.specs.Plaintext.{values_of}
-use Rattle.spec_exchange.specs.Chain.{◌>>=◌, unless, none_of, or_refused}
-use Rattle.spec_exchange.specs.Rebuilding.{no_values, no_block, no_fill, read_block, unless_fault, filled_with}
+use Rattle.spec_exchange.specs.Chain.{◌>>=◌, unless, or_refused}
+use Rattle.spec_exchange.specs.Rebuilding.{unless_fault, filled_with}
 use Rattle.spec_exchange.specs.ReceivingRefusals as receiving
 use Rattle.spec_exchange.specs.ReceivingRefusals.{Form, NotBuilt, Reconstruction}
 use Rattle.spec_exchange.specs.AcceptRefusals.{Refusal, Receiving, Screened}
 use Rattle.spec_exchange.specs.FirstFailed as plain
 use Rattle.spec_exchange.specs.FirstFailed.{Delivery, Rebuilt, rebuilt, is_later, is_response, delivery_at, key_for}
-use Rattle.spec_exchange.specs.Asked.{MappedBy, ItsHead, asked_for}
+use Rattle.spec_exchange.specs.Asked.{ItsHead, asked_for}
 use Rattle.spec_exchange.specs.Screens.{Passes}
 use Rattle.spec_exchange.specs.EntryChecks.{Verifying, Terms, Progress, entries_applied}
-use Rattle.spec_exchange.specs.Accepting.{stage, formed, sealed_values, terms_of, is_passed, first_failed_of, first_failed}
+use Rattle.spec_exchange.specs.Accepting.{stage, sealed_values, terms_of, is_passed, first_failed_of, first_failed}
 use Rattle.spec_exchange.proofs.ChainLemmas.{bind_then, none_ok, unless_ok, wanted_ok, ok_same, IsNew}
 
 -- ---- stages

@@ -1,21 +1,21 @@
 -- Over runs with documents of every kind: each message is delivered once at most, and each number sent once at most.
-use Rattle.std.proofs.Common.{◌≡◌, ℕ, ◌+◌, ◌≤◌, Bool, true, false, List, [], ◌∷◌, Option, Some, None, Result, Ok, Err, refl, arith}
+use Rattle.std.proofs.Common.{◌≡◌, ℕ, ◌+◌, ◌≤◌, Bool, true, false, List, [], ◌∷◌, Result, Ok, Err, refl, arith}
 use Rattle.std.specs.Prelude.{bytes_eq, count_by, ◌==◌}
 use Rattle.std.proofs.lemmas.Bool.{and_parts, and_from}
 use Rattle.std.proofs.lemmas.List.Sums.{sum_by-cons}
 use Rattle.spec_messages.specs.Message.{Kind}
-use Rattle.spec_records.specs.Records.{same_kind, Record, is_delivery, is_numbered, was_delivered, was_sent}
+use Rattle.spec_records.specs.Records.{Record, is_delivery, is_numbered, was_delivered, was_sent}
 use Rattle.spec_exchange.specs.AcceptRefusals as accepting
 use Rattle.spec_exchange.specs.SendingRefusals as sending
 use Rattle.spec_exchange.specs.FirstFailed.{Delivery}
 use Rattle.spec_exchange.specs.Outside.{Cause}
-use Rattle.spec_exchange.specs.Calls.{Sealed, Outgoing, delivered_record, sent_record, sends, protected}
+use Rattle.spec_exchange.specs.Calls.{Sealed, delivered_record, sent_record, sends, protected}
 use Rattle.spec_exchange.specs.Runs.{Call, Deliver, Send, Puts}
 use Rattle.spec_exchange.specs.Screens.{Passes}
 use Rattle.spec_exchange.specs.Accepting.{first_failed}
 use Rattle.spec_exchange.specs.AcceptCalls.{Choices, accepted}
 use Rattle.spec_exchange.specs.AcceptRuns.{Event, Reply, Told, Made, told, made, reply_of, after, replies, delivers, numbers}
-use Rattle.spec_exchange.proofs.ChainLemmas.{IsNew, protected-ok, puts-ok}
+use Rattle.spec_exchange.proofs.ChainLemmas.{protected-ok, puts-ok}
 use Rattle.spec_exchange.proofs.RunLemmas.{bit, bit-below, held-more, newly, delivered-new, numbered-new}
 use Rattle.spec_exchange.proofs.AcceptLemmas.{accepted-passed}
 

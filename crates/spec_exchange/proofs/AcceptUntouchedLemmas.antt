@@ -1,21 +1,20 @@
 -- A request or a response that was sealed and not touched is delivered as it was.
-use Rattle.std.proofs.Common.{◌≡◌, ℕ, ◌<◌, ◌≤◌, ◌^◌, List, [], ◌∷◌, length, Bool, true, false, Option, Some, None, Result, Ok, refl, sym, ap, ap₂, ◌∙◌, subst, codes, arith}
+use Rattle.std.proofs.Common.{◌≡◌, ℕ, ◌<◌, ◌≤◌, ◌^◌, List, [], length, true, Option, Some, None, Ok, refl, sym, ap, ap₂, ◌∙◌, subst, codes, arith}
 use Rattle.std.specs.Prelude.{is_some, if◌then◌else◌}
 use Rattle.std.proofs.lemmas.Bool.{lt-leb}
 use Rattle.spec_documents.specs.Tree.{Tree, get_member, depth, member}
-use Rattle.spec_documents.specs.Text.{index_text}
 use Rattle.spec_documents.specs.Ids.{hex_after}
 use Rattle.spec_documents.specs.Compact.{compact_text}
 use Rattle.spec_documents.proofs.Chains.{bind_at}
 use Rattle.spec_messages.specs.Message.{Message, Head, request, response, Kind, of_request, of_response, kind_of, kind_of_head, wanted}
-use Rattle.spec_messages.specs.Policy.{Policy, values}
+use Rattle.spec_messages.specs.Policy.{Policy}
 use Rattle.spec_messages.specs.HeadMapping.{mapping_of_head}
 use Rattle.spec_messages.specs.Split.{cleared, hide_head, fill_whole}
-use Rattle.spec_messages.specs.Block.{Meta, Block, RequestText, request_text, status_text, header_tree, item_tree, with_list, meta_tree, line_members, block_members, block_tree, block_of, sent_block, is_ordered_body, is_meta, head_text}
+use Rattle.spec_messages.specs.Block.{Meta, Block, status_text, header_tree, item_tree, with_list, meta_tree, line_members, block_members, block_tree, block_of, sent_block, head_text}
 use Rattle.spec_messages.specs.Rebuilt.{fill_fault}
-use Rattle.spec_records.specs.Keys.{nonce, send_key, receive_key}
-use Rattle.spec_records.specs.Records.{OneKey, KeySet, Context, Record, record_limit, open_context, keys, next_seq, mapping_delivered, answered}
-use Rattle.spec_sealing.specs.Received.{Received, block_in, metadata_of, kind_in, received, carrier}
+use Rattle.spec_records.specs.Keys.{nonce, receive_key}
+use Rattle.spec_records.specs.Records.{KeySet, Context, Record, record_limit, open_context, keys}
+use Rattle.spec_sealing.specs.Received.{block_in, metadata_of, kind_in, received, carrier}
 use Rattle.spec_sealing.specs.Plaintext.{plaintext}
 use Rattle.spec_sealing.specs.Plaintext as plaintexts
 use Rattle.spec_sealing.specs.Suites.{ContentKey, content_key}
@@ -24,7 +23,7 @@ use Rattle.spec_sealing.specs.Forms.{HasParts, HasTexts}
 use Rattle.spec_sealing.proofs.Opening.{sealed-allowed, sealed-opens, sealed-texts}
 use Rattle.spec_sealing.proofs.Written.{carried-received, values-read}
 use Rattle.spec_exchange.specs.Chain.{or_refused, none_of, unless}
-use Rattle.spec_exchange.specs.Rebuilding.{filled_with, in_clear}
+use Rattle.spec_exchange.specs.Rebuilding.{in_clear}
 use Rattle.spec_exchange.specs.ReceivingRefusals.{Form, NoContext, NoReceiveKeys, Cipher, Integrity, Replay, InClear, NoRoom}
 use Rattle.spec_exchange.specs.SendingRefusals as sending
 use Rattle.spec_exchange.specs.AcceptRefusals.{Unasked}
@@ -37,7 +36,7 @@ use Rattle.spec_exchange.specs.EntryChecks.{Verifying, Progress}
 use Rattle.spec_exchange.specs.Accepting.{stage, sealed_values, first_failed_of, first_failed}
 use Rattle.spec_exchange.specs.AcceptUntouched as shipped
 use Rattle.spec_exchange.specs.AcceptUntouched.{Shipment, shipment, id_of, document_of, AnswersId, OwnMapping, IsSendable, AreValues, AskedIt, IsReady, delivery_of}
-use Rattle.spec_exchange.proofs.ChainLemmas.{bind_then, none_ok, unless_ok, wanted_ok, ok_same}
+use Rattle.spec_exchange.proofs.ChainLemmas.{bind_then, none_ok, wanted_ok, ok_same}
 use Rattle.spec_exchange.proofs.HiddenLemmas.{all-hidden}
 use Rattle.spec_exchange.proofs.UntouchedLemmas.{Stands, id_back, status-absent, meta-is, rebuilt-back, aad-back, seq-fits}
 use Rattle.spec_exchange.proofs.AcceptLemmas.{sealed_values-is, passed_by, fill-is}

@@ -1,14 +1,14 @@
 -- What entries that all hold tell: each is bound to its document, and they make a chain of allowed changes of its block.
 use Rattle.std.proofs.Common.{◌≡◌, ℕ, suc, Bool, true, false, List, [], ◌∷◌, ◌++◌, length, Option, Some, None, Result, Ok, Err, refl, ap, sym, subst, ◌∙◌}
-use Rattle.std.specs.Prelude.{not, bytes_eq}
+use Rattle.std.specs.Prelude.{not}
 use Rattle.std.proofs.lemmas.Slice.Eq.{bytes_eq-Decides}
 use Rattle.spec_documents.specs.Tree.{Tree, is_ordered}
 use Rattle.spec_documents.specs.Patch.{Op}
 use Rattle.spec_messages.specs.Message.{Message, Kind, of_request, of_response, wanted}
 use Rattle.spec_messages.specs.Policy.{Policy}
 use Rattle.spec_messages.specs.Block.{IsBlock, clear_message}
-use Rattle.spec_messages.specs.Fault.{BlockFault, block_fault, deep}
-use Rattle.spec_messages.specs.Entry.{OpWhy, Allowed, EntryApplied}
+use Rattle.spec_messages.specs.Fault.{BlockFault, block_fault}
+use Rattle.spec_messages.specs.Entry.{OpWhy, EntryApplied}
 use Rattle.spec_messages.specs.Outcome.{entry_outcome, Ground, entry_on, AppliedOn}
 use Rattle.spec_messages.specs.Changed.{ChainApplied}
 use Rattle.spec_messages.specs.Rebuilt.{FillFault, fill_fault}
@@ -16,16 +16,14 @@ use Rattle.spec_messages.specs.Split.{filled, fill_whole}
 use Rattle.spec_records.specs.Records.{Record, mapping_sent}
 use Rattle.spec_documents.proofs.Chains.{bind_at, bind_err}
 use Rattle.spec_sealing.specs.Entries.{Entry, SignedEntry, entry_in, entry_ops}
-use Rattle.spec_sealing.specs.Plaintext.{values_of}
 use Rattle.spec_exchange.specs.Chain.{◌>>=◌, unless, or_refused}
-use Rattle.spec_exchange.specs.Rebuilding.{no_values, no_block, no_fill, of_block, read_block, unless_fault, filled_with}
+use Rattle.spec_exchange.specs.Rebuilding.{of_block, read_block, unless_fault, filled_with}
 use Rattle.spec_exchange.specs.ReceivingRefusals as receiving
 use Rattle.spec_exchange.specs.ReceivingRefusals.{Reconstruction}
 use Rattle.spec_exchange.specs.FirstFailed.{Rebuilt, rebuilt}
-use Rattle.spec_exchange.specs.Route.{in_route}
-use Rattle.spec_exchange.specs.EntryRefusals.{EntryRefusal, BadForm, OffRoute, VerifierFailed, BadSignature, OtherTag, NotAllowed}
+use Rattle.spec_exchange.specs.EntryRefusals.{EntryRefusal, BadForm, OffRoute, VerifierFailed, OtherTag}
 use Rattle.spec_exchange.specs.AcceptRefusals.{Refusal, OfEntry, Unasked, Screened}
-use Rattle.spec_exchange.specs.EntryChecks.{Claim, Verdict, Signed, NotSigned, Fails, Verifying, verdict_of, by_meaning, Terms, Progress, claim_of, is_signed, bound_entry, not_allowed, applied, entry_applied, entries_from}
+use Rattle.spec_exchange.specs.EntryChecks.{Claim, Verdict, Signed, NotSigned, Fails, Verifying, verdict_of, by_meaning, Terms, Progress, claim_of, is_signed, not_allowed, entry_applied, entries_from}
 use Rattle.spec_exchange.specs.AcceptDelivered.{IsBound, AreBound, changes}
 use Rattle.spec_exchange.specs.Accepting.{stage, sealed_values, terms_of, first_failed}
 use Rattle.spec_exchange.specs.Asked.{asked_for, mapping_by}

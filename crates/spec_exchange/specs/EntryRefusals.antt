@@ -1,5 +1,5 @@
 -- Why an entry of an intermediary isn't applied, in the order of the checks (this project's own).
-use Rattle.std.specs.Prelude.{ℕ, List, [], ◌∷◌, ◌++◌, codes}
+use Rattle.std.specs.Prelude.{ℕ, List, ◌∷◌, ◌++◌, codes}
 use Rattle.std.specs.Fmt.{decimal}
 use Rattle.spec_documents.specs.Place.{Cause, no_place, bad_index, test_failed, into_itself, too_deep}
 use Rattle.spec_messages.specs.AddressText.{address_text}

@@ -23,3 +23,4 @@ pub mod AcceptRuns
 pub mod AcceptIsolation
 pub mod AcceptUntouched
 pub mod AcceptDelivered
+pub mod AcceptRows

@@ -1,4 +1,4 @@
-use Rattle.std.proofs.Common.{◌≡◌, ℕ, List, sym, subst}
+use Rattle.std.proofs.Common.{sym, subst}
 use Rattle.spec_documents.specs.Hole.{fill_all}
 use Rattle.spec_messages.specs.Message.{Message}
 use Rattle.spec_messages.specs.Block.{StandsFor}
