@@ -9,9 +9,8 @@ use Rattle.spec_messages.specs.Printing.{header_pair}
 use Rattle.spec_messages.specs.Block.{Meta, Items, item_tree, header_tree, meta_tree, with_list, unless_empty}
 use Rattle.spec_messages.specs.Split.{hide_body}
 use Rattle.n32_values.specs.View.{tree_of}
-use Rattle.http_message.specs.Reading.{kind_view}
+use Rattle.policy_tables.specs.Covered.{Asked}
 use Rattle.reformat_blocks.specs.Rules.{header_test}
-use Rattle.reformat_blocks.specs.declared.rules.Rules.{Rules}
 use Rattle.reformat_blocks.specs.declared.sent.SentLine.{SentLine}
 use Rattle.reformat_blocks.specs.declared.sent.SentLine.TheVariants as lines
 
@@ -38,5 +37,5 @@ sent_members hs meta ts line =
     (member (codes "metaData") (meta_tree meta) (with_items ts line))
 
 -- the body with its holes, where n values stand before those of the headers
-abbrev pub hidden_body : Rules → ℕ → List Header → Option Tree → Option Tree
-hidden_body r n hs body = hide_body r.policy.now r.mapping (kind_view r.kind) (n + length (numbered (header_test r) header_spot (λ h. part_value h.value) 0 hs)) body
+abbrev pub hidden_body : Asked → ℕ → List Header → Option Tree → Option Tree
+hidden_body r n hs body = hide_body r.policy r.mapping r.kind (n + length (numbered (header_test r) header_spot (λ h. part_value h.value) 0 hs)) body

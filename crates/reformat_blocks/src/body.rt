@@ -9,37 +9,30 @@ ghost use Rattle.spec_messages.specs.Block.{item_tree, leaves, members_leaves};
 ghost use Rattle.spec_messages.specs.Policy.{outermost, outermost_items, outermost_members};
 ghost use Rattle.spec_messages.specs.Split.{hide, hide_items, hide_members};
 ghost use Rattle.n32_values.specs.View.{tree_of};
+ghost use Rattle.policy_tables.specs.Covered.{Leads};
 ghost use Rattle.reformat_blocks.specs.Rules.{node_test};
 ghost use Rattle.reformat_blocks.specs.Sent.{item_trees, stood};
 
 use crate::parts::next_index;
 use doc_forms::{hole_node, number_text, put, put_text};
-use http_message::Kind;
 use json_ptr::{Pointer, pointer_text};
 use n32_values::{NoMemory, Node, NodeList, NodeMap, Text, copy_doc};
-use policy_tables::{Policy, is_secret_node};
+use policy_tables::{Covering, Rules};
 use std::alloc::Global;
 
-/// The body that is walked, with the policy, the mapping's number and the message's kind.
+/// The body that is walked, and what is asked about it.
 #[derive(Clone, Copy, Drop)]
 pub(crate) struct Body<'a> {
-    pub(crate) policy: &'a Policy,
-    pub(crate) mapping: Option<u32>,
-    pub(crate) kind: Kind,
+    pub(crate) rules: &'a Rules<'a>,
     pub(crate) root: &'a Node,
 }
 
-fn is_secret(body: &Body<'_>, pointer: &Pointer, node: &Node) -> bool
+fn is_secret(body: &Body<'_>, covering: Covering<'_>, pointer: &Pointer, node: &Node) -> bool
+    requires { Leads body.now.rules.now pointer.now covering }
     ensures { result ≡ node_test body.now pointer.now (tree_of node.now) }
 {
-    is_secret_node(
-        body.policy,
-        body.mapping,
-        body.kind,
-        body.root,
-        pointer,
-        node,
-    )
+    body.rules
+        .is_secret_node(covering, body.root, pointer, node)
 }
 
 // The next hole, whose value is then the node.
@@ -64,20 +57,26 @@ fn push_name(alloc: Global, pointer: &mut Pointer, name: &str) -> Result<(), NoM
 fn hidden_node(
     alloc: Global,
     body: &Body<'_>,
+    covering: Covering<'_>,
     node: &Node,
     pointer: &mut Pointer,
     values: &mut NodeList,
 ) -> Result<Node, NoMemory>
+    requires { Leads body.now.rules.now pointer.old covering }
     ensures node { IfOk result (λ n. tree_of n ≡ hide (node_test body.now) pointer.old (length values.old) (tree_of node.now)) }
     ensures values { OnOk result (values.new ≡ values.old ++ stood (outermost (node_test body.now) pointer.old (tree_of node.now))) }
     ensures pointer { OnOk result (pointer.new ≡ pointer.old) }
 {
-    if is_secret(body, pointer, node) {
+    if is_secret(body, covering, pointer, node) {
         return hole_for(alloc, node, values);
     }
     match node {
-        Node::Items(list) => Ok(Node::Items(hidden_list(alloc, body, list, pointer, values)?)),
-        Node::Members(map) => Ok(Node::Members(hidden_map(alloc, body, map, pointer, values)?)),
+        Node::Items(list) => Ok(Node::Items(hidden_list(
+            alloc, body, covering, list, pointer, values,
+        )?)),
+        Node::Members(map) => Ok(Node::Members(hidden_map(
+            alloc, body, covering, map, pointer, values,
+        )?)),
         _ => copy_doc(alloc, node),
     }
 }
@@ -86,10 +85,12 @@ fn hidden_node(
 fn hidden_list(
     alloc: Global,
     body: &Body<'_>,
+    covering: Covering<'_>,
     list: &NodeList,
     pointer: &mut Pointer,
     values: &mut NodeList,
 ) -> Result<NodeList, NoMemory>
+    requires { Leads body.now.rules.now pointer.old covering }
     ensures list { IfOk result (λ l. trees l ≡ hide_items (node_test body.now) pointer.old 0 (length values.old) (trees list.now)) }
     ensures values { OnOk result (values.new ≡ values.old ++ stood (outermost_items (node_test body.now) pointer.old 0 (trees list.now))) }
     ensures pointer { OnOk result (pointer.new ≡ pointer.old) }
@@ -98,8 +99,10 @@ fn hidden_list(
     let mut hidden = NodeList::new(alloc);
     for i in 0..list.len() {
         let index = number_text(alloc, i as u64)?;
-        push_name(alloc, pointer, index.as_str())?;
-        hidden.push(hidden_node(alloc, body, list.item(i), pointer, values)?)?;
+        let token = index.as_str();
+        let inner = covering.enter(token);
+        push_name(alloc, pointer, token)?;
+        hidden.push(hidden_node(alloc, body, inner, list.item(i), pointer, values)?)?;
         pointer.truncate(depth);
     }
     Ok(hidden)
@@ -109,10 +112,12 @@ fn hidden_list(
 fn hidden_map(
     alloc: Global,
     body: &Body<'_>,
+    covering: Covering<'_>,
     map: &NodeMap,
     pointer: &mut Pointer,
     values: &mut NodeList,
 ) -> Result<NodeMap, NoMemory>
+    requires { Leads body.now.rules.now pointer.old covering }
     ensures map { IfOk result (λ m. m ≡ hide_members (node_test body.now) pointer.old (length values.old) map.now) }
     ensures values { OnOk result (values.new ≡ values.old ++ stood (outermost_members (node_test body.now) pointer.old map.now)) }
     ensures pointer { OnOk result (pointer.new ≡ pointer.old) }
@@ -121,8 +126,10 @@ fn hidden_map(
     let mut hidden = NodeMap::new(alloc);
     for i in 0..map.len() {
         let (name, node) = map.entry(i);
-        push_name(alloc, pointer, name.as_str())?;
-        let node = hidden_node(alloc, body, node, pointer, values)?;
+        let token = name.as_str();
+        let inner = covering.enter(token);
+        push_name(alloc, pointer, token)?;
+        let node = hidden_node(alloc, body, inner, node, pointer, values)?;
         hidden.push_last(name.copy(alloc)?, node)?;
         pointer.truncate(depth);
     }
@@ -152,51 +159,62 @@ fn push_item(
 }
 
 // Whether the members of an object have items of their own: it has members, and isn't secret.
-fn is_opened(body: &Body<'_>, pointer: &Pointer, node: &Node, map: &NodeMap) -> bool
+fn is_opened(
+    body: &Body<'_>,
+    covering: Covering<'_>,
+    pointer: &Pointer,
+    node: &Node,
+    map: &NodeMap,
+) -> bool
+    requires { Leads body.now.rules.now pointer.now covering }
     ensures { result ≡ (not (node_test body.now pointer.now (tree_of node.now)) && nat_lt 0 (length (field_list map.now))) }
 {
-    !is_secret(body, pointer, node) && 0 < map.len()
+    !is_secret(body, covering, pointer, node) && 0 < map.len()
 }
 
 #[cycle(items)]
 fn push_items(
     alloc: Global,
     body: &Body<'_>,
+    covering: Covering<'_>,
     node: &Node,
     pointer: &mut Pointer,
     items: &mut NodeList,
     values: &mut NodeList,
 ) -> Result<(), NoMemory>
+    requires { Leads body.now.rules.now pointer.old covering }
     ensures items { OnOk result (items.new ≡ items.old ++ item_trees (leaves pointer.old (hide (node_test body.now) pointer.old (length values.old) (tree_of node.now)))) }
     ensures values { OnOk result (values.new ≡ values.old ++ stood (outermost (node_test body.now) pointer.old (tree_of node.now))) }
     ensures pointer { OnOk result (pointer.new ≡ pointer.old) }
 {
     match node {
         Node::Members(map) => {
-            if is_opened(body, pointer, node, map) {
-                push_members(alloc, body, map, pointer, items, values)?;
+            if is_opened(body, covering, pointer, node, map) {
+                push_members(alloc, body, covering, map, pointer, items, values)?;
                 return Ok(());
             }
-            push_leaf(alloc, body, node, pointer, items, values)?;
+            push_leaf(alloc, body, covering, node, pointer, items, values)?;
             Ok(())
         }
-        _ => push_leaf(alloc, body, node, pointer, items, values),
+        _ => push_leaf(alloc, body, covering, node, pointer, items, values),
     }
 }
 
 fn push_leaf(
     alloc: Global,
     body: &Body<'_>,
+    covering: Covering<'_>,
     node: &Node,
     pointer: &mut Pointer,
     items: &mut NodeList,
     values: &mut NodeList,
 ) -> Result<(), NoMemory>
+    requires { Leads body.now.rules.now pointer.old covering }
     ensures items { OnOk result (items.new ≡ items.old ++ item_tree (text_of pointer.old, hide (node_test body.now) pointer.old (length values.old) (tree_of node.now)) ∷ []) }
     ensures values { OnOk result (values.new ≡ values.old ++ stood (outermost (node_test body.now) pointer.old (tree_of node.now))) }
     ensures pointer { OnOk result (pointer.new ≡ pointer.old) }
 {
-    let value = hidden_node(alloc, body, node, pointer, values)?;
+    let value = hidden_node(alloc, body, covering, node, pointer, values)?;
     push_item(alloc, pointer, value, items)
 }
 
@@ -204,11 +222,13 @@ fn push_leaf(
 fn push_members(
     alloc: Global,
     body: &Body<'_>,
+    covering: Covering<'_>,
     map: &NodeMap,
     pointer: &mut Pointer,
     items: &mut NodeList,
     values: &mut NodeList,
 ) -> Result<(), NoMemory>
+    requires { Leads body.now.rules.now pointer.old covering }
     ensures items { OnOk result (items.new ≡ items.old ++ item_trees (members_leaves pointer.old (hide_members (node_test body.now) pointer.old (length values.old) map.now))) }
     ensures values { OnOk result (values.new ≡ values.old ++ stood (outermost_members (node_test body.now) pointer.old map.now)) }
     ensures pointer { OnOk result (pointer.new ≡ pointer.old) }
@@ -216,8 +236,10 @@ fn push_members(
     let depth = pointer.len();
     for i in 0..map.len() {
         let (name, node) = map.entry(i);
-        push_name(alloc, pointer, name.as_str())?;
-        push_items(alloc, body, node, pointer, items, values)?;
+        let token = name.as_str();
+        let inner = covering.enter(token);
+        push_name(alloc, pointer, token)?;
+        push_items(alloc, body, inner, node, pointer, items, values)?;
         pointer.truncate(depth);
     }
     Ok(())
@@ -233,6 +255,15 @@ pub(crate) fn push_body(
     ensures items { OnOk result (items.new ≡ items.old ++ item_trees (leaves [] (hide (node_test body.now) [] (length values.old) (tree_of body.now.root.now)))) }
     ensures values { OnOk result (values.new ≡ values.old ++ stood (outermost (node_test body.now) [] (tree_of body.now.root.now))) }
 {
+    let covering = body.rules.covering();
     let mut pointer = Pointer::new(alloc);
-    push_items(alloc, body, body.root, &mut pointer, items, values)
+    push_items(
+        alloc,
+        body,
+        covering,
+        body.root,
+        &mut pointer,
+        items,
+        values,
+    )
 }

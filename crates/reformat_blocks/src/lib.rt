@@ -7,7 +7,6 @@ mod body;
 mod laws;
 mod message_split;
 mod parts;
-mod rules;
 mod sent;
 
 pub use block::Split;

@@ -7,11 +7,10 @@ ghost use Rattle.n32_values.specs.View.{tree_of};
 ghost use Rattle.http_message.specs.Reading.{part_view, pair_view, header_view};
 ghost use Rattle.reformat_blocks.specs.Rules.{segment_test, pair_test, header_test};
 
-use crate::rules::Rules;
 use doc_forms::hole_node;
 use http_message::{Header, HeaderList, Pair, PairList, Part, PartList};
 use n32_values::{NoMemory, Node, NodeList};
-use policy_tables::{is_secret_header, is_secret_pair, is_secret_segment};
+use policy_tables::Rules;
 use std::alloc::Global;
 
 /// The number of the hole that stands for the next value. More values than a `u32` counts fit no memory.
@@ -70,7 +69,7 @@ fn hidden_segment(
     ensures part { IfOk result (λ p. part_view p ≡ (if segment_test rules.now i (part_view part.now) then hide_part (length values.old) (part_view part.now) else part_view part.now)) }
     ensures values { OnOk result (values.new ≡ values.old ++ (if segment_test rules.now i (part_view part.now) then value_of (part_view part.now) ∷ [] else [])) }
 {
-    let is_secret = is_secret_segment(rules.policy, rules.mapping, rules.kind, i, part);
+    let is_secret = rules.is_secret_segment(i, part);
     hidden_part(alloc, is_secret, part, values)
 }
 
@@ -99,7 +98,7 @@ fn hidden_pair(
     ensures pair { IfOk result (λ p. pair_view p ≡ (if pair_test rules.now 0 (pair_view pair.now) then hide_pair (length values.old) (pair_view pair.now) else pair_view pair.now)) }
     ensures values { OnOk result (values.new ≡ values.old ++ (if pair_test rules.now 0 (pair_view pair.now) then value_or_null (pair_view pair.now).value ∷ [] else [])) }
 {
-    let is_secret = is_secret_pair(rules.policy, rules.mapping, rules.kind, pair);
+    let is_secret = rules.is_secret_pair(pair);
     let name = pair.name.copy(alloc)?;
     match &pair.value {
         Some(value) => Ok(Pair {
@@ -135,7 +134,7 @@ fn hidden_header(
     ensures header { IfOk result (λ h. header_view h ≡ (if header_test rules.now 0 (header_view header.now) then hide_header (length values.old) (header_view header.now) else header_view header.now)) }
     ensures values { OnOk result (values.new ≡ values.old ++ (if header_test rules.now 0 (header_view header.now) then value_of (header_view header.now).value ∷ [] else [])) }
 {
-    let is_secret = is_secret_header(rules.policy, rules.mapping, rules.kind, header);
+    let is_secret = rules.is_secret_header(header);
     Ok(Header {
         name: header.name.copy(alloc)?,
         value: hidden_part(alloc, is_secret, &header.value, values)?,

@@ -7,19 +7,18 @@ ghost use Rattle.spec_messages.specs.Policy.{line_secrets, body_secrets, numbere
 ghost use Rattle.spec_messages.specs.Printing.{header_pair};
 ghost use Rattle.spec_messages.specs.Split.{cleared, hide_head, hide_body, hide_each, hide_header};
 ghost use Rattle.n32_values.specs.View.{tree_of};
-ghost use Rattle.http_message.specs.Reading.{header_view, message_view, request_line, kind_view};
+ghost use Rattle.http_message.specs.Reading.{header_view, message_view, request_line};
 ghost use Rattle.reformat_blocks.specs.Rules.{header_test};
 ghost use Rattle.reformat_blocks.specs.Sent.{item_trees, stood, with_items, line_part, sent_members, hidden_body};
 ghost use Rattle.block_forms.specs.Metadata.{meta_view, lower_ids};
 
 use crate::body::{Body, push_body};
 use crate::parts::{hidden_headers, hidden_pairs, hidden_segments};
-use crate::rules::Rules;
 use block_forms::{Meta, meta_node};
 use doc_forms::{number_text, put};
 use http_message::{HeaderList, Kind, Message, Request, line_node, put_headers};
 use n32_values::{Doc, NoMemory, Node, NodeList, NodeMap, Text};
-use policy_tables::Policy;
+use policy_tables::{Policy, Rules};
 use std::alloc::Global;
 
 /// The block of a message as a node, how many items it has, and the values of its holes.
@@ -45,8 +44,8 @@ fn hidden_line(
     values: &mut NodeList,
 ) -> Result<SentLine, NoMemory>
     requires { values.old ≡ [] }
-    ensures line { IfOk result (λ l. line_part l ≡ line_members (head_text (hide_head rules.now.policy.now rules.now.mapping (kind_view rules.now.kind) (request_head (request_line request.now))))) }
-    ensures values { OnOk result (values.new ≡ stood (line_secrets rules.now.policy.now rules.now.mapping (kind_view rules.now.kind) (request_head (request_line request.now)))) }
+    ensures line { IfOk result (λ l. line_part l ≡ line_members (head_text (hide_head rules.now.policy rules.now.mapping rules.now.kind (request_head (request_line request.now))))) }
+    ensures values { OnOk result (values.new ≡ stood (line_secrets rules.now.policy rules.now.mapping rules.now.kind (request_head (request_line request.now)))) }
 {
     let line = Request {
         method: request.method.copy(alloc)?,
@@ -67,16 +66,14 @@ fn hidden_items(
     body: &Option<Doc>,
     values: &mut NodeList,
 ) -> Result<NodeList, NoMemory>
-    ensures items { IfOk result (λ l. l ≡ item_trees (body_leaves (hide_body rules.now.policy.now rules.now.mapping (kind_view rules.now.kind) (length values.old) body.now))) }
-    ensures values { OnOk result (values.new ≡ values.old ++ stood (body_secrets rules.now.policy.now rules.now.mapping (kind_view rules.now.kind) body.now)) }
+    ensures items { IfOk result (λ l. l ≡ item_trees (body_leaves (hide_body rules.now.policy rules.now.mapping rules.now.kind (length values.old) body.now))) }
+    ensures values { OnOk result (values.new ≡ values.old ++ stood (body_secrets rules.now.policy rules.now.mapping rules.now.kind body.now)) }
 {
     let mut items = NodeList::new(alloc);
     match body {
         Some(doc) => {
             let body = Body {
-                policy: rules.policy,
-                mapping: rules.mapping,
-                kind: rules.kind,
+                rules,
                 root: doc.node(),
             };
             push_body(alloc, &body, &mut items, values)?;
@@ -141,7 +138,7 @@ fn sent_after(
         (item_trees (body_leaves (hidden_body rules.now (length values) (list_map header_view headers.now) body.now))) (line_part line))) }
     ensures items { IfOk result (λ s. s.items ≡ length (body_leaves (hidden_body rules.now (length values) (list_map header_view headers.now) body.now))) }
     ensures values { IfOk result (λ s. s.values ≡ values ++ (stood (numbered (header_test rules.now) header_spot (λ h. part_value h.value) 0 (list_map header_view headers.now))
-        ++ stood (body_secrets rules.now.policy.now rules.now.mapping (kind_view rules.now.kind) body.now))) }
+        ++ stood (body_secrets rules.now.policy rules.now.mapping rules.now.kind body.now))) }
 {
     let mut values = values;
     let headers = hidden_headers(alloc, rules, headers, &mut values)?;
@@ -169,21 +166,13 @@ pub(crate) fn sent_of(
     let mut values = NodeList::new(alloc);
     match message {
         Message::Request(request) => {
-            let rules = Rules {
-                policy,
-                mapping,
-                kind: Kind::Request,
-            };
+            let rules = Rules::new(alloc, policy, mapping, Kind::Request)?;
             let line = hidden_line(alloc, &rules, request, &mut values)?;
             let (headers, body) = (&request.headers, &request.body);
             sent_after(alloc, &rules, meta, line, headers, body, values)
         }
         Message::Response(response) => {
-            let rules = Rules {
-                policy,
-                mapping,
-                kind: Kind::Response,
-            };
+            let rules = Rules::new(alloc, policy, mapping, Kind::Response)?;
             let line = SentLine::Status(response.status);
             let (headers, body) = (&response.headers, &response.body);
             sent_after(alloc, &rules, meta, line, headers, body, values)

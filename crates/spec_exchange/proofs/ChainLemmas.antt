@@ -17,7 +17,7 @@ pub none_ok : {X E : Type 0} (e : X → E) (o : Option X) (u : Unit {0}) → non
 none_ok e None u h = refl
 none_ok e (Some x) u h = cc
 
-unless_ok : {E : Type 0} (b : Bool) (e : E) (u : Unit {0}) → unless b e ≡ Ok u → b ≡ false
+pub unless_ok : {E : Type 0} (b : Bool) (e : E) (u : Unit {0}) → unless b e ≡ Ok u → b ≡ false
 unless_ok true e u h = cc
 unless_ok false e u h = refl
 

@@ -32,10 +32,10 @@ filter-filter q (x ∷ xs) = passed (q x) refl (filter-filter q xs)
     passed true e h = rw e (ap (λ r. x ∷ r) h)
     passed false e h = h
 
-own-own : (node : List ℕ) (id : ℕ) (records : List Record) → own node id (own node id records) ≡ own node id records
+pub own-own : (node : List ℕ) (id : ℕ) (records : List Record) → own node id (own node id records) ≡ own node id records
 own-own node id records = filter-filter (is_of node id) records
 
-own-one : (node : List ℕ) (id : ℕ) (r : Record) → is_of node id r ≡ true → own node id (r ∷ []) ≡ r ∷ []
+pub own-one : (node : List ℕ) (id : ℕ) (r : Record) → is_of node id r ≡ true → own node id (r ∷ []) ≡ r ∷ []
 own-one node id r e = rw e
 
 -- ---- the questions, over a context's own records
@@ -55,7 +55,7 @@ answered-own node id message records = rw own-own
 next_seq-own : (node : List ℕ) (id : ℕ) (kind : Kind) (records : List Record) → next_seq node id kind (own node id records) ≡ next_seq node id kind records
 next_seq-own node id kind records = rw own-own
 
-delivered_at-own : (node : List ℕ) (id : ℕ) (kind : Kind) (message : ℕ) (records : List Record) → is_some (delivered_at node id kind message records) ≡ is_some (delivered_at node id kind message (own node id records))
+pub delivered_at-own : (node : List ℕ) (id : ℕ) (kind : Kind) (message : ℕ) (records : List Record) → is_some (delivered_at node id kind message records) ≡ is_some (delivered_at node id kind message (own node id records))
 delivered_at-own node id kind message records =
     delivered_at-is_some node id kind message records ∙ (same ∙ sym (delivered_at-is_some node id kind message (own node id records)))
   where
@@ -66,7 +66,7 @@ own-shorter : (node : List ℕ) (id : ℕ) (records : List Record) → length (o
 own-shorter node id records = omega (arith, length-filter (is_of node id) records, count_by-le-length (is_of node id) records)
 
 -- below the limit both lists are
-room-own : (node : List ℕ) (id : ℕ) (records : List Record) → length records < record_limit → nat_le record_limit (length records) ≡ nat_le record_limit (length (own node id records))
+pub room-own : (node : List ℕ) (id : ℕ) (records : List Record) → length records < record_limit → nat_le record_limit (length records) ≡ nat_le record_limit (length (own node id records))
 room-own node id records short =
     let shorter : length (own node id records) < record_limit = omega (arith, own-shorter node id records) in
     lt-leb record_limit (length records) short ∙ sym (lt-leb record_limit (length (own node id records)) shorter)
@@ -85,12 +85,12 @@ replay_alike (Some a) (Some b) e f g h = refl
 replay_alike None (Some b) e f g h = cc
 replay_alike (Some a) None e f g h = cc
 
-bind_same : {A B E : Type 0} (r s : Result A E) → r ≡ s → (f g : A → Result B E) → ((x : A) → f x ≡ g x) → (r >>= f) ≡ (s >>= g)
+pub bind_same : {A B E : Type 0} (r s : Result A E) → r ≡ s → (f g : A → Result B E) → ((x : A) → f x ≡ g x) → (r >>= f) ≡ (s >>= g)
 unfolding ◌>>=◌
 bind_same (Ok x) s e f g h = rw (← e) (h x)
 bind_same (Err d) s e f g h = rw (← e)
 
-keyed_context-own : (records : List Record) (node : List ℕ) (id : ℕ) → keyed_context records node id ≡ keyed_context (own node id records) node id
+pub keyed_context-own : (records : List Record) (node : List ℕ) (id : ℕ) → keyed_context records node id ≡ keyed_context (own node id records) node id
 keyed_context-own records node id =
     bind_same _ _ (ap (λ o. wanted o NoContext) (sym (open_context-own node id records))) _ _ λ x.
     bind_same _ _ (ap (λ o. wanted o NoReceiveKeys) (sym (keys-own node id records))) _ _ λ k.
@@ -201,7 +201,7 @@ delivered-id records node t y e =
     ap received_id (formed-is t p.parts p.form) ∙ ap (λ i. Some i) (sym p.id_is)
 
 -- what a call puts is of the context that the call is of
-is_id-at : (o : Option ℕ) (i j : ℕ) → o ≡ Some i → is_id o j ≡ (i == j)
+pub is_id-at : (o : Option ℕ) (i j : ℕ) → o ≡ Some i → is_id o j ≡ (i == j)
 is_id-at o i j e = rw e
 
 put_names : (node : List ℕ) (id : ℕ) (records : List Record) (f : Choice) (call : Call) (r : Record) → put_of records f call ≡ Some r → is_of node id r ≡ concerns node id call
@@ -235,7 +235,7 @@ other_after node id records f call e = stepped (put_of records f call) refl
     stepped None h = refl
     stepped (Some r) h = own-append_other node id records r (put_names node id records f call r h ∙ e)
 
-length_after : (records : List Record) (o : Option Record) → length (with_put records o) ≤ length records + 1
+pub length_after : (records : List Record) (o : Option Record) → length (with_put records o) ≤ length records + 1
 length_after records None = omega arith
 length_after records (Some r) = omega (arith, length-append records (r ∷ []))
 

@@ -1,4 +1,9 @@
+pub mod AcceptIsolationLemmas
+pub mod AcceptLemmas
+pub mod AcceptRunLemmas
+pub mod AcceptUntouchedLemmas
 pub mod ChainLemmas
+pub mod EntryLemmas
 pub mod HiddenLemmas
 pub mod IsolationLemmas
 pub mod RunLemmas

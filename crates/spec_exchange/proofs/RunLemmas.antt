@@ -31,7 +31,7 @@ own_any-append p node id xs ys = ap (list_any p) (own-append node id xs ys) ∙ 
 one_found : (p : Record → Bool) (node : List ℕ) (id : ℕ) (r : Record) → is_of node id r ≡ true → p r ≡ true → list_any p (own node id (r ∷ [])) ≡ true
 one_found p node id r at passes = rw at (ap (λ b. b || false) passes)
 
-never_delivered : (node : List ℕ) (id : ℕ) (kind : Kind) (message : ℕ) (records : List Record) → delivered_at node id kind message records ≡ None → was_delivered node id kind message records ≡ false
+pub never_delivered : (node : List ℕ) (id : ℕ) (kind : Kind) (message : ℕ) (records : List Record) → delivered_at node id kind message records ≡ None → was_delivered node id kind message records ≡ false
 never_delivered node id kind message records e = sym (delivered_at-is_some node id kind message records) ∙ ap is_some e
 
 -- as a number
@@ -70,7 +70,7 @@ newly p node id records o r none put at passes =
 -- ---- deliveries
 
 -- a delivery of this message is of one that was new
-delivered-new : (node : List ℕ) (id : ℕ) (kind : Kind) (message : ℕ) (records : List Record) (at : List ℕ) (d : Delivery) → IsNew records at d → delivers node id kind message (Told d) ≡ true
+pub delivered-new : (node : List ℕ) (id : ℕ) (kind : Kind) (message : ℕ) (records : List Record) (at : List ℕ) (d : Delivery) → IsNew records at d → delivers node id kind message (Told d) ≡ true
     → was_delivered node id kind message records ≡ false
 delivered-new node id kind message records at d new e =
     let a = and_parts (bytes_eq d.node node) _ e in
@@ -115,7 +115,7 @@ delivered-once records events node id kind message = counted (delivers node id k
 -- ---- numbers
 
 -- a document of this number is of one that was not sent before
-numbered-new : (node : List ℕ) (id : ℕ) (kind : Kind) (seq : ℕ) (records : List Record) (at : List ℕ) (i : ℕ) (o : Outgoing) (s : Sealed) → IsNext records at i o s → numbers node id kind seq (Made s) ≡ true
+pub numbered-new : (node : List ℕ) (id : ℕ) (kind : Kind) (seq : ℕ) (records : List Record) (at : List ℕ) (i : ℕ) (o : Outgoing) (s : Sealed) → IsNext records at i o s → numbers node id kind seq (Made s) ≡ true
     → was_sent node id kind seq records ≡ false
 numbered-new node id kind seq records at i o s next e =
     let a = and_parts (bytes_eq s.node node) _ e in

@@ -58,7 +58,7 @@ id_lower : (n : ℕ) → lower (id_text n) ≡ id_text n
 unfolding id_text
 id_lower n = digits_lower 16 n
 
-id_back : (n : ℕ) → n < 2 ^ 64 → hex_after 0 (lower (id_text n)) ≡ n
+pub id_back : (n : ℕ) → n < 2 ^ 64 → hex_after 0 (lower (id_text n)) ≡ n
 id_back n fits = ap (hex_after 0) (id_lower n) ∙ tested (is_id (id_text n)) (hex_after 0 (id_text n)) (id_of-id_text n fits)
   where
     tested : (b : Bool) (k : ℕ) → cond b (Some k) None ≡ Some n → k ≡ n
@@ -84,7 +84,7 @@ meta-there b = behind b.headers
     behind None = refl
     behind (Some xs) = refl
 
-status-absent : (b : Block) (l : _) → b.line ≡ request_text l → get_member (codes "statusLine") (block_members b) ≡ None
+pub status-absent : (b : Block) (l : _) → b.line ≡ request_text l → get_member (codes "statusLine") (block_members b) ≡ None
 status-absent b l e = ap (λ t. get_member (codes "statusLine") (with_list (codes "headers") header_tree b.headers (member (codes "metaData") (meta_tree b.metadata) (with_list (codes "payload") item_tree b.payload (line_members t))))) e ∙ behind b.headers b.payload
   where
     behind : (hs ps : Option (List (List ℕ × Tree))) → get_member (codes "statusLine") (with_list (codes "headers") header_tree hs (member (codes "metaData") (meta_tree b.metadata) (with_list (codes "payload") item_tree ps (line_members (request_text l))))) ≡ None
@@ -93,7 +93,7 @@ status-absent b l e = ap (λ t. get_member (codes "statusLine") (with_list (code
     behind (Some xs) None = refl
     behind (Some xs) (Some ys) = refl
 
-meta-is : (b : Block) → metadata_of (block_tree b) ≡ b.metadata
+pub meta-is : (b : Block) → metadata_of (block_tree b) ≡ b.metadata
 meta-is b = ap (λ o. meta_of (members_of (or_null o))) (meta-there b)
 
 -- ---- limits
@@ -139,7 +139,7 @@ pub record Stands (pol : Policy) (k : Option ℕ) (m : Message) (meta : Meta) : 
 block-back : (pol : Policy) (k : Option ℕ) (m : Message) (meta : Meta) → Stands pol k m meta → read_block (sent_block pol k m meta) (length (values pol k m)) ≡ Ok (cleared pol k m)
 block-back pol k m meta h = ap₂ of_block h.fault h.clear
 
-rebuilt-back : (pol : Policy) (k : Option ℕ) (m : Message) (meta : Meta) → values_of (plaintext (values pol k m)) ≡ Some (values pol k m) → Stands pol k m meta
+pub rebuilt-back : (pol : Policy) (k : Option ℕ) (m : Message) (meta : Meta) → values_of (plaintext (values pol k m)) ≡ Some (values pol k m) → Stands pol k m meta
     → rebuilt (sent_block pol k m meta) (plaintext (values pol k m)) ≡ Ok (record { holed = cleared pol k m; content = m })
 rebuilt-back pol k m meta listed h =
     bind_at _ _ (values pol k m) (ap (λ o. wanted o (Reconstruction no_values)) listed)
@@ -159,7 +159,7 @@ fault-meta j n e = tested (is_object j && is_meta_node (get_member (codes "metaD
     tested false e = cc
 
 -- the `aad` text of a block is read to it
-aad-back : (j : Tree) (n : ℕ) → block_fault j n ≡ None → IsDocument j → depth j ≤ 127 → IsBytes (compact_text j) → block_in (base64url (compact_text j)) ≡ Some j
+pub aad-back : (j : Tree) (n : ℕ) → block_fault j n ≡ None → IsDocument j → depth j ≤ 127 → IsBytes (compact_text j) → block_in (base64url (compact_text j)) ≡ Some j
 aad-back j n e d shallow bytes =
     ap (λ o. option_and_then if_has_meta (option_and_then document_of o)) (bytes_of-base64url (compact_text j) bytes)
     ∙ (ap (option_and_then if_has_meta) (document_of-reads (compact_text j) j (reads_back j d shallow)) ∙ fault-meta j n e)
@@ -229,7 +229,7 @@ seq_at-fits n seq e = tested (nat_lt n (2 ^ 32)) refl e
     tested true h f = let same : n ≡ seq = cc in subst (λ z. z < 2 ^ 32) same (ltb-true n (2 ^ 32) h)
     tested false h f = cc
 
-seq-fits : (k : Option KeySet) (o : Option ℕ) (seq : ℕ) → seq_with k o ≡ Some seq → seq < 2 ^ 32
+pub seq-fits : (k : Option KeySet) (o : Option ℕ) (seq : ℕ) → seq_with k o ≡ Some seq → seq < 2 ^ 32
 seq-fits None o seq e = cc
 seq-fits (Some k) None seq e = seq_at-fits k.first seq e
 seq-fits (Some k) (Some n) seq e = seq_at-fits (n + 1) seq e

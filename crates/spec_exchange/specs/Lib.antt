@@ -11,3 +11,16 @@ pub mod Rows
 pub mod Runs
 pub mod Isolation
 pub mod Untouched
+pub mod Route
+pub mod EntryRefusals
+pub mod AcceptRefusals
+pub mod Screens
+pub mod Asked
+pub mod EntryChecks
+pub mod Accepting
+pub mod AcceptCalls
+pub mod AcceptRuns
+pub mod AcceptIsolation
+pub mod AcceptUntouched
+pub mod AcceptDelivered
+pub mod AcceptRows

@@ -1,6 +1,10 @@
 //! What SEPPs send and receive under a context (N32-f), as definitions over records and documents, and laws over them.
 #![tactic(auto)]
 
+pub mod accept_rows;
+pub mod accept_runs;
+pub mod accept_untouched;
+pub mod accepting;
 pub mod rows;
 pub mod runs;
 pub mod untouched;

@@ -7,13 +7,14 @@ use Rattle.spec_messages.specs.Policy.{outermost, outermost_members}
 use Rattle.spec_messages.specs.Split.{hide, hide_members}
 use Rattle.n32_values.specs.View.{tree_of}
 use Rattle.n32_values.proofs.Trees.{depth_within, member_depth_within}
+use Rattle.policy_tables.proofs.CoverTree.{leads_on}
 use Rattle.reformat_blocks.specs.Rules.{node_test}
 use Rattle.reformat_blocks.specs.Sent.{stood}
 use Rattle.reformat_blocks.proofs.BodyWalk.{list_step, list_stood, list_done, map_step, map_stood, map_done, front_ascends}
 use Rattle.reformat_blocks.proofs.body.+hide.Goals as goal
 
 pub hidden_list-hidden_node-requires : goal.hidden_list-hidden_node-requires
-hidden_list-hidden_node-requires t c = (omega (arith, depth_within c.args.list.now c.loop-i.i (tree_of c.item.result.now) c.item.ensures, c.decreases), tt)
+hidden_list-hidden_node-requires t c = (omega (arith, depth_within c.args.list.now c.loop-i.i (tree_of c.item.result.now) c.item.ensures, c.decreases), leads_on c.args.body.now.rules.now c.args.pointer.now c.push_name.new.pointer c.as_str-token.result.now c.args.covering c.enter-inner.result c.requires c.enter-inner.ensures (c.in_ok-push_name.ensures ∙ ap (λ p. p ++ c.as_str-token.result.now ∷ []) c.loop-i.invariant.pointer))
 
 pub hidden_list-loop-i-preserved : goal.hidden_list-loop-i-preserved
 hidden_list-loop-i-preserved t c =
@@ -21,7 +22,7 @@ hidden_list-loop-i-preserved t c =
     let test = node_test c.args.body.now in
     let node = tree_of c.item.result.now in
     let token = index_text c.loop-i.i in
-    let pushed : c.push_name.new.pointer ≡ q ++ token ∷ [] = c.in_ok-push_name.ensures ∙ ap (λ p. p ++ c.as_str.result.now ∷ []) c.loop-i.invariant.pointer ∙ ap (λ n. q ++ n ∷ []) (c.as_str.ensures.value ∙ c.in_ok-index.ensures) in
+    let pushed : c.push_name.new.pointer ≡ q ++ token ∷ [] = c.in_ok-push_name.ensures ∙ ap (λ p. p ++ c.as_str-token.result.now ∷ []) c.loop-i.invariant.pointer ∙ ap (λ n. q ++ n ∷ []) (c.as_str-token.ensures.value ∙ c.in_ok-index.ensures) in
     let hidden : c.hidden_node.new.values ≡ c.loop-i.values ++ stood (outermost test (q ++ token ∷ []) node) = c.in_ok-hidden_node.ensures.values ∙ ap (λ p. c.loop-i.values ++ stood (outermost test p node)) pushed in
     let is : tree_of c.in_ok-hidden_node.field-0 ≡ hide test (q ++ token ∷ []) (length c.loop-i.values) node = c.in_ok-hidden_node.ensures.node ∙ ap (λ p. hide test p (length c.loop-i.values) node) pushed in record {
       deep = c.loop-i.invariant.deep;
@@ -44,7 +45,7 @@ hidden_map-loop-i-init t c = record {
 
 pub hidden_map-hidden_node-requires : goal.hidden_map-hidden_node-requires
 hidden_map-hidden_node-requires t c =
-    (omega (arith, member_depth_within c.args.map.now c.loop-i.i c.entry.result.0.now (tree_of c.entry.result.1.now) c.entry.ensures, c.decreases), tt)
+    (omega (arith, member_depth_within c.args.map.now c.loop-i.i c.entry.result.0.now (tree_of c.entry.result.1.now) c.entry.ensures, c.decreases), leads_on c.args.body.now.rules.now c.args.pointer.now c.push_name.new.pointer c.as_str-token.result.now c.args.covering c.enter-inner.result c.requires c.enter-inner.ensures (c.in_ok-push_name.ensures ∙ ap (λ p. p ++ c.as_str-token.result.now ∷ []) c.loop-i.invariant.pointer))
 
 pub hidden_map-push_last-requires : goal.hidden_map-push_last-requires
 hidden_map-push_last-requires t c =
@@ -52,7 +53,7 @@ hidden_map-push_last-requires t c =
     let test = node_test c.args.body.now in
     let name = c.entry.result.0.now in
     let node = tree_of c.entry.result.1.now in
-    let pushed : c.push_name.new.pointer ≡ q ++ name ∷ [] = c.in_ok-push_name.ensures ∙ ap (λ p. p ++ c.as_str.result.now ∷ []) c.loop-i.invariant.pointer ∙ ap (λ n. q ++ n ∷ []) c.as_str.ensures in
+    let pushed : c.push_name.new.pointer ≡ q ++ name ∷ [] = c.in_ok-push_name.ensures ∙ ap (λ p. p ++ c.as_str-token.result.now ∷ []) c.loop-i.invariant.pointer ∙ ap (λ n. q ++ n ∷ []) c.as_str-token.ensures in
     let hidden : c.hidden_node.new.values ≡ c.loop-i.values ++ stood (outermost test (q ++ name ∷ []) node) = c.in_ok-node.ensures.values ∙ ap (λ p. c.loop-i.values ++ stood (outermost test p node)) pushed in
     let is : tree_of c.in_ok-node.node ≡ hide test (q ++ name ∷ []) (length c.loop-i.values) node = c.in_ok-node.ensures.node ∙ ap (λ p. hide test p (length c.loop-i.values) node) pushed in
     front_ascends test q (length c.args.values.now) c.args.map.now _ _ c.len-i-end.ensures.ascending
@@ -64,7 +65,7 @@ hidden_map-loop-i-preserved t c =
     let test = node_test c.args.body.now in
     let name = c.entry.result.0.now in
     let node = tree_of c.entry.result.1.now in
-    let pushed : c.push_name.new.pointer ≡ q ++ name ∷ [] = c.in_ok-push_name.ensures ∙ ap (λ p. p ++ c.as_str.result.now ∷ []) c.loop-i.invariant.pointer ∙ ap (λ n. q ++ n ∷ []) c.as_str.ensures in
+    let pushed : c.push_name.new.pointer ≡ q ++ name ∷ [] = c.in_ok-push_name.ensures ∙ ap (λ p. p ++ c.as_str-token.result.now ∷ []) c.loop-i.invariant.pointer ∙ ap (λ n. q ++ n ∷ []) c.as_str-token.ensures in
     let hidden : c.hidden_node.new.values ≡ c.loop-i.values ++ stood (outermost test (q ++ name ∷ []) node) = c.in_ok-node.ensures.values ∙ ap (λ p. c.loop-i.values ++ stood (outermost test p node)) pushed in
     let is : tree_of c.in_ok-node.node ≡ hide test (q ++ name ∷ []) (length c.loop-i.values) node = c.in_ok-node.ensures.node ∙ ap (λ p. hide test p (length c.loop-i.values) node) pushed in record {
       deep = c.loop-i.invariant.deep;

@@ -10,6 +10,7 @@ use Rattle.spec_messages.specs.Policy.{outermost, outermost_members}
 use Rattle.spec_messages.specs.Split.{hide, hide_members}
 use Rattle.n32_values.specs.View.{tree_of}
 use Rattle.n32_values.proofs.Trees.{member_depth_within}
+use Rattle.policy_tables.proofs.CoverTree.{leads_on}
 use Rattle.reformat_blocks.specs.Rules.{node_test}
 use Rattle.reformat_blocks.specs.Sent.{stood, item_trees}
 use Rattle.reformat_blocks.proofs.BodyWalk.{items_step, map_stood, closed_leaf, opened_leaves, unmarked}
@@ -25,7 +26,7 @@ push_members-loop-i-init t c = record {
 
 pub push_members-push_items-requires : goal.push_members-push_items-requires
 push_members-push_items-requires t c =
-    (omega (arith, member_depth_within c.args.map.now c.loop-i.i c.entry.result.0.now (tree_of c.entry.result.1.now) c.entry.ensures, c.decreases), tt)
+    (omega (arith, member_depth_within c.args.map.now c.loop-i.i c.entry.result.0.now (tree_of c.entry.result.1.now) c.entry.ensures, c.decreases), leads_on c.args.body.now.rules.now c.args.pointer.now c.push_name.new.pointer c.as_str-token.result.now c.args.covering c.enter-inner.result c.requires c.enter-inner.ensures (c.in_ok-push_name.ensures ∙ ap (λ p. p ++ c.as_str-token.result.now ∷ []) c.loop-i.invariant.pointer))
 
 pub push_members-loop-i-preserved : goal.push_members-loop-i-preserved
 push_members-loop-i-preserved t c =
@@ -33,7 +34,7 @@ push_members-loop-i-preserved t c =
     let test = node_test c.args.body.now in
     let name = c.entry.result.0.now in
     let node = tree_of c.entry.result.1.now in
-    let pushed : c.push_name.new.pointer ≡ q ++ name ∷ [] = c.in_ok-push_name.ensures ∙ ap (λ p. p ++ c.as_str.result.now ∷ []) c.loop-i.invariant.pointer ∙ ap (λ n. q ++ n ∷ []) c.as_str.ensures in
+    let pushed : c.push_name.new.pointer ≡ q ++ name ∷ [] = c.in_ok-push_name.ensures ∙ ap (λ p. p ++ c.as_str-token.result.now ∷ []) c.loop-i.invariant.pointer ∙ ap (λ n. q ++ n ∷ []) c.as_str-token.ensures in
     let hidden : c.push_items.new.values ≡ c.loop-i.values ++ stood (outermost test (q ++ name ∷ []) node) = c.in_ok-push_items.ensures.values ∙ ap (λ p. c.loop-i.values ++ stood (outermost test p node)) pushed in
     let added : c.push_items.new.items ≡ c.loop-i.items ++ item_trees (leaves (q ++ name ∷ []) (hide test (q ++ name ∷ []) (length c.loop-i.values) node))
     = c.in_ok-push_items.ensures.items ∙ ap (λ p. c.loop-i.items ++ item_trees (leaves p (hide test p (length c.loop-i.values) node))) pushed in record {
