@@ -1,2 +1,3 @@
 pub mod ReadBack
-pub mod EntryRead
+pub mod IdsRead
+pub mod FormsRead

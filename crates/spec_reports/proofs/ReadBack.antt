@@ -1,5 +1,5 @@
 -- The document of a report is read to this report.
-use Rattle.std.proofs.Common.{◌≡◌, ℕ, ◌<◌, ◌^◌, Bool, true, false, List, Option, Some, None, Ok, refl, cond, subst, ap, ◌∙◌}
+use Rattle.std.proofs.Common.{◌≡◌, ℕ, ◌<◌, ◌^◌, Bool, true, false, List, Option, Some, None, Ok, refl, cond, subst}
 use Rattle.spec_documents.proofs.IdLemmas.{id_of-id_text}
 use Rattle.spec_reports.specs.Report.{ErrorType, ContextNotFound, DecipheringFailed, IntegrityCheckFailed, MessageReconstructionFailed, PolicyMismatch, IntegrityCheckOnModificationsFailed, ModificationsInstructionsFailed, Report, type_for, tells_entry, told_entry, report_for, IsEntry, IsFormed}
 use Rattle.spec_reports.specs.Document.{type_of, type_text, report_in, report_tree}

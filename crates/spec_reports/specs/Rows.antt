@@ -1,5 +1,5 @@
 -- Reports and documents of the worked examples.
-use Rattle.std.specs.Prelude.{ℕ, List, [], ◌∷◌, Option, Some, None, codes}
+use Rattle.std.specs.Prelude.{ℕ, List, [], ◌∷◌, Option, codes}
 use Rattle.spec_documents.specs.Tree.{Tree, words, items, members, trees, object}
 use Rattle.spec_documents.specs.Fields.{Field}
 use Rattle.spec_reports.specs.Report.{ErrorType, Report}

@@ -16,7 +16,8 @@ pub fn made_report_is_read()
     ensures { (n : ℕ) (entry : Option (List ℕ)) (context message : ℕ) (r : Report) → report_for n entry context message ≡ Some r → context < 2 ^ 64 → message < 2 ^ 64 → IsEntry entry → report_in (report_tree r) ≡ Ok r }
 {}
 
-/// The intermediary that a report names is one: its identity is in the grammar.
-pub fn named_entry_is_identity()
-    ensures { (t : Tree) (r : Report) → report_in t ≡ Ok r → IsEntry r.entry }
+/// A report that was read has ids of 64 bits, and an identity as its intermediary. Its own document is read to it again.
+pub fn read_report_is_formed()
+    ensures formed { (t : Tree) (r : Report) → report_in t ≡ Ok r → IsFormed r }
+    ensures again { (t : Tree) (r : Report) → report_in t ≡ Ok r → report_in (report_tree r) ≡ Ok r }
 {}

@@ -1,12 +1,14 @@
--- The intermediary that a read report names has an identity.
-use Rattle.std.proofs.Common.{◌≡◌, ℕ, Bool, true, false, List, [], ◌∷◌, Option, Some, None, Result, Ok, Err, refl, subst, cond}
+-- A report that was read has ids of 64 bits, and names an intermediary by an identity.
+use Rattle.std.proofs.Common.{◌≡◌, ℕ, ◌<◌, ◌^◌, Bool, true, false, List, [], ◌∷◌, Option, Some, None, Ok, refl, subst, cond}
 use Rattle.std.specs.Prelude.{codes}
 use Rattle.spec_documents.specs.Tree.{Tree, null, truth, whole, words, items, members, Members, get_member, items_in}
+use Rattle.spec_documents.specs.Ids.{id_of}
 use Rattle.spec_documents.specs.Text.{is_identity}
 use Rattle.spec_documents.proofs.TreeLemmas.{bind_ok}
-use Rattle.spec_messages.specs.Message.{wanted, text_in, text_if, text_at}
-use Rattle.spec_reports.specs.Report.{Report, IsEntry}
-use Rattle.spec_reports.specs.Document.{NoReport, no_report, id_in, type_in, failure_with, failure_in, one_failure, entry_in, report_with, report_in}
+use Rattle.spec_messages.specs.Message.{wanted, text_in, text_at}
+use Rattle.spec_reports.specs.Report.{Report, IsEntry, IsFormed}
+use Rattle.spec_reports.specs.Document.{no_report, id_in, type_in, failure_in, one_failure, entry_in, report_with, report_in}
+use Rattle.spec_reports.proofs.IdsRead.{id_fits}
 
 got : {A : Type 0} (o : Option A) (x : A) → wanted o no_report ≡ Ok x → o ≡ Some x
 got None x e = cc
@@ -50,19 +52,32 @@ entry_identity (Some t) entry e =
     let same : Some b.0 ≡ entry = cc in
     subst IsEntry same (one_identity a.0 b.0 b.1)
 
-members_identity : (ms : Members) (r : Report) → report_with ms ≡ Ok r → IsEntry r.entry
-members_identity ms r e =
+id_read : (o : Option Tree) (n : ℕ) → id_in o ≡ Ok n → n < 2 ^ 64
+id_read None n e = cc
+id_read (Some null) n e = cc
+id_read (Some (truth b)) n e = cc
+id_read (Some (whole z)) n e = cc
+id_read (Some (words s)) n e = id_fits s n (got (id_of s) n e)
+id_read (Some (items ts)) n e = cc
+id_read (Some (members ms)) n e = cc
+
+members_formed : (ms : Members) (r : Report) → report_with ms ≡ Ok r → IsFormed r
+members_formed ms r e =
     let a = bind_ok (entry_in (get_member (codes "failedModificationList") ms)) _ r e in
     let b = bind_ok (id_in (get_member (codes "n32fContextId") ms)) _ r a.2 in
     let d = bind_ok (type_in (get_member (codes "n32fErrorType") ms)) _ r b.2 in
     let f = bind_ok (id_in (get_member (codes "n32fMessageId") ms)) _ r d.2 in
     let same : record { context = b.0; message = f.0; error = d.0; entry = a.0 } ≡ r = cc in
-    subst (λ x. IsEntry x.entry) same (entry_identity (get_member (codes "failedModificationList") ms) a.0 a.1)
+    subst IsFormed same (record {
+      context = id_read (get_member (codes "n32fContextId") ms) b.0 b.1;
+      message = id_read (get_member (codes "n32fMessageId") ms) f.0 f.1;
+      entry = entry_identity (get_member (codes "failedModificationList") ms) a.0 a.1;
+    })
 
-pub named_identity : (t : Tree) (r : Report) → report_in t ≡ Ok r → IsEntry r.entry
-named_identity null r e = cc
-named_identity (truth b) r e = cc
-named_identity (whole z) r e = cc
-named_identity (words s) r e = cc
-named_identity (items ts) r e = cc
-named_identity (members ms) r e = members_identity ms r e
+pub read_is_formed : (t : Tree) (r : Report) → report_in t ≡ Ok r → IsFormed r
+read_is_formed null r e = cc
+read_is_formed (truth b) r e = cc
+read_is_formed (whole z) r e = cc
+read_is_formed (words s) r e = cc
+read_is_formed (items ts) r e = cc
+read_is_formed (members ms) r e = members_formed ms r e
