@@ -1,10 +1,10 @@
 //! The report of a refusal.
 
-ghost use Rattle.std.specs.Prelude.{◌≡◌, [], ◌∷◌, IfOk, OnOk, codes, option_map};
+ghost use Rattle.std.specs.Prelude.{◌≡◌, [], ◌∷◌, IfOk, codes, option_map};
 ghost use Rattle.spec_documents.specs.Ids.{id_text};
-ghost use Rattle.spec_documents.specs.Tree.{items, trees, object, put_member, words};
+ghost use Rattle.spec_documents.specs.Tree.{items, trees, object, words};
 ghost use Rattle.spec_reports.specs.Report as spec;
-ghost use Rattle.spec_reports.specs.Document.{failure_tree, onto_failures, report_tree, type_text};
+ghost use Rattle.spec_reports.specs.Document.{failure_tree, report_tree, type_text};
 ghost use Rattle.n32_values.specs.View.{tree_of};
 ghost use Rattle.error_reports.specs.View.{type_view};
 

@@ -1,8 +1,7 @@
 //! A peer's report is read.
 
-ghost use Rattle.std.specs.Prelude.{◌≡◌, option_map, codes};
+ghost use Rattle.std.specs.Prelude.{◌≡◌, option_map};
 ghost use Rattle.spec_documents.specs.Gives.{Gives};
-ghost use Rattle.spec_documents.specs.Tree.{get_member};
 ghost use Rattle.spec_reports.specs.Document as spec;
 ghost use Rattle.n32_values.specs.View.{tree_of};
 ghost use Rattle.error_reports.specs.View.{form_told, report_view, type_view};
