@@ -3,7 +3,7 @@ use crate::args::Args;
 use crate::given::Given;
 use crate::{
     blocks, changes, ciphers, differences, entries, holes, jwes, messages, patches, pointers,
-    policies, records, sealing, texts, values, wires,
+    policies, records, reports, sealing, texts, values, wires,
 };
 use n32_values::Node;
 use std::alloc::Global;
@@ -122,6 +122,16 @@ fn entry_call(alloc: Global, name: &str, args: Args<'_>, given: &Given) -> Optio
         "sign_entry" => entries::sign_entry_call(alloc, args, given),
         "verify_entry" => entries::verify_entry_call(alloc, args, given),
         "pass_on" => entries::pass_on_call(alloc, args, given),
+        _ => report_call(alloc, name, args, given),
+    }
+}
+
+// Reports of refused messages.
+fn report_call(alloc: Global, name: &str, args: Args<'_>, given: &Given) -> Option<Node> {
+    match name {
+        "report_of" => reports::report_of_call(alloc, args, given),
+        "read_report" => reports::read_report_call(alloc, args),
+        "report_back" => reports::report_back_call(alloc, args, given),
         _ => None,
     }
 }

@@ -26,6 +26,7 @@ mod patches;
 mod pointers;
 mod policies;
 mod records;
+mod reports;
 mod rows;
 mod sealing;
 mod texts;
