@@ -1,5 +1,5 @@
 // An entry's operations, in order.
-ghost use Rattle.std.specs.Prelude.{◌≡◌, ◌≤◌, ◌<◌, ℕ, List, None, Ok, IfOk, length, map};
+ghost use Rattle.std.specs.Prelude.{◌≡◌, ◌≤◌, ◌<◌, None, Ok, IfOk, OnOk, OnErr, length, map};
 ghost use Rattle.spec_documents.specs.Hole.{places as places_of};
 ghost use Rattle.spec_messages.specs.Message as spec;
 ghost use Rattle.spec_messages.specs.Block.{IsBlock};
@@ -7,7 +7,8 @@ ghost use Rattle.spec_messages.specs.Fault.{block_fault};
 ghost use Rattle.spec_messages.specs.Outcome.{entry_outcome};
 ghost use Rattle.http_message.specs.Reading.{message_view};
 ghost use Rattle.json_patch6902.specs.View.{op_view};
-ghost use Rattle.block_patch.specs.Answers.{Applies, Runs, Numbers};
+ghost use Rattle.block_patch.specs.Answers.{Answers, Runs, Numbers};
+ghost use Rattle.block_patch.specs.Commutes.{BlockOf, ground, Applied, FillsAlike, KeepsValues, ChangesAllowed};
 
 use crate::fault::{EntryFault, StepFault};
 use crate::step::{Patched, Rules, step};
@@ -16,8 +17,9 @@ use enc_index::{Holes, HolesFault, places};
 use json_patch6902::OpList;
 use n32_values::{Doc, NoMemory, Text};
 use policy_tables::Policy;
-use spec_messages::blocks::{block_has_one_message, each_index_has_one_place, fault_decides};
+use spec_messages::blocks::{block_has_one_message, fault_decides};
 use spec_messages::commutation::patching_commutes_with_filling;
+use spec_messages::kept::entries_keep;
 use spec_messages::outcomes::{entry_outcome_decides, operation_outcome_decides};
 use std::alloc::Global;
 
@@ -121,13 +123,17 @@ pub fn apply_entry(
     ipx: &Text,
 ) -> Result<(), EntryFault>
     requires { length operations.now ≤ 64 }
-    ensures { (n : ℕ) (c : spec.Message) → IsBlock block.old n c → Applies (entry_outcome policy.now mapping ipx.now n block.old c (map op_view operations.now)) (map op_view operations.now) block.old c block.new result }
+    ensures answer { (b : BlockOf block.old) → Answers (ground policy.now mapping ipx.now block.old b) (map op_view operations.now) block.new result }
+    ensures as_before { OnErr result (block.new ≡ block.old) }
+    ensures filled { OnOk result ((b : BlockOf block.old) → Applied (ground policy.now mapping ipx.now block.old b) (map op_view operations.now) block.new FillsAlike) }
+    ensures values { OnOk result ((b : BlockOf block.old) → Applied (ground policy.now mapping ipx.now block.old b) (map op_view operations.now) block.new KeepsValues) }
+    ensures changes { OnOk result ((b : BlockOf block.old) → Applied (ground policy.now mapping ipx.now block.old b) (map op_view operations.now) block.new ChangesAllowed) }
 {
     fault_decides();
     block_has_one_message();
-    each_index_has_one_place();
     entry_outcome_decides();
     patching_commutes_with_filling();
+    entries_keep();
     let rules = Rules {
         policy,
         mapping,
