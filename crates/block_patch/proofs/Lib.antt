@@ -1,4 +1,4 @@
 mod PlaceLists
-mod Fronts
+mod Guards
 mod Results
 mod Entries

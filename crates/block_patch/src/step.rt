@@ -125,7 +125,14 @@ fn compared(
 ) -> Result<Patched, StepFault>
     ensures { Gives (spec.unless_fixed (entries.first_fixed rules.policy.now rules.mapping rules.ipx.now (message_view before.now) (message_view message)) (doc, message_view message)) result }
 {
-    match first_fixed(alloc, rules.policy, rules.mapping, before, &message, rules.ipx) {
+    match first_fixed(
+        alloc,
+        rules.policy,
+        rules.mapping,
+        before,
+        &message,
+        rules.ipx,
+    ) {
         Ok(None) => Ok(Patched { doc, message }),
         Ok(Some(address)) => Err(StepFault::Why(OpWhy::NotModifiable(address))),
         Err(_) => Err(StepFault::NoMemory),

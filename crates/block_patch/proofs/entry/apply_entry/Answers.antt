@@ -25,15 +25,15 @@ returns-in-Ok c =
     let w = c.of_doc.result in
     let d = message_view c.in-Ok.message in
     let made : (b : BlockOf j) → Made (ground pol k ipx j b) ops w = λ b.
-        let g = ground pol k ipx j b in
-        let told = λ (m : _) (is : IsBlock j n m). subst (λ t. entry_outcome pol k ipx n j m ops ≡ Ok (t, d)) (sym c.of_doc.ensures.value) (c.in-Ok.ensures.outcome m is) in
-        let outcome = told_of pol k ipx ops j n b (Ok (w, d)) c.holes.ensures told in
-        record {
-          message = d;
-          outcome = outcome;
-          applied = c.entry_outcome_decides.ensures.made g ops (w, d) outcome;
-          block = block_of j n b w d c.holes.ensures (subst (λ t. IsBlock t n d) (sym c.of_doc.ensures.value) c.in-Ok.ensures.block);
-        } in
+    let g = ground pol k ipx j b in
+    let told = λ (m : _) (is : IsBlock j n m). subst (λ t. entry_outcome pol k ipx n j m ops ≡ Ok (t, d)) (sym c.of_doc.ensures.value) (c.in-Ok.ensures.outcome m is) in
+    let outcome = told_of pol k ipx ops j n b (Ok (w, d)) c.holes.ensures told in
+    record {
+      message = d;
+      outcome = outcome;
+      applied = c.entry_outcome_decides.ensures.made g ops (w, d) outcome;
+      block = block_of j n b w d c.holes.ensures (subst (λ t. IsBlock t n d) (sym c.of_doc.ensures.value) c.in-Ok.ensures.block);
+    } in
     let step : (b : BlockOf j) → EntryStep = λ b. entry_step (ground pol k ipx j b) ops w d (made b).applied in
     let chain : (b : BlockOf j) → ChainStep = λ b. one_chain (step b) in
     let law = c.patching_commutes_with_filling.ensures in
