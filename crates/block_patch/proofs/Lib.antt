@@ -1,4 +1,4 @@
 mod PlaceLists
-mod Guards
+mod Overwriting
 mod Results
 mod Entries
