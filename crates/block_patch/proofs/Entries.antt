@@ -127,7 +127,7 @@ block_of j n b w d e is = subst (λ m. IsBlock w m d) (count_of j n b e) is
 -- a refusal, in the terms of any reading of the block
 pub turned_down : {A : Type 0} (pol : Policy) (k : Option ℕ) (ipx : List ℕ) (ops : List patch.Op) (j : Tree) (n : ℕ) (b : BlockOf j) (f : EntryFault) → block_fault j n ≡ None
     → ((c : Message) → IsBlock j n c → Runs (entry_outcome pol k ipx n j c ops) (Err f)) → ((g : Ground) (i : ℕ) (why : OpWhy) → entry_on g ops ≡ Err (i, why) → FirstRefused g ops i why)
-    → Answers {A} (ground pol k ipx j b) ops j (Err f)
+    → Answers {A = A} (ground pol k ipx j b) ops j (Err f)
 turned_down pol k ipx ops j n b (entry.Operation i why) e told first =
     let outcome = told_of pol k ipx ops j n b (Err (i, why_view why)) e told in
     record { outcome = outcome; first = first (ground pol k ipx j b) i (why_view why) outcome }

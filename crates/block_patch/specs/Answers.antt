@@ -1,14 +1,15 @@
 -- What an operation of an entry, and an entry, answers.
-use Rattle.std.specs.Prelude.{◌≡◌, ⊤, ℕ, List, Bool, Result, Ok, Err, if◌then◌else◌}
+use Rattle.std.specs.Prelude.{◌≡◌, ⊤, ℕ, List, Bool, Option, Result, Ok, Err, if◌then◌else◌}
 use Rattle.spec_documents.specs.Tree.{Tree}
 use Rattle.spec_documents.specs.Place.{◌>>=◌}
 use Rattle.spec_documents.specs.Patch.{Op}
 use Rattle.spec_documents.specs.Hole.{HolePlace, places}
 use Rattle.spec_messages.specs.Message.{Message}
+use Rattle.spec_messages.specs.Policy.{Policy}
 use Rattle.spec_messages.specs.Block.{IsBlock}
 use Rattle.spec_messages.specs.Entry as spec
 use Rattle.spec_messages.specs.Entry.{hole_value, into_hole, patch, hole_taken, too_large, metadata, not_block, hole_moved, not_modifiable}
-use Rattle.spec_messages.specs.Outcome.{Ground, AppliedOn, FirstRefused, entry_on, same_places, read_again}
+use Rattle.spec_messages.specs.Outcome.{Ground, AppliedOn, FirstRefused, entry_on, same_places, read_again, unless_fixed}
 use Rattle.http_message.specs.Reading.{message_view}
 use Rattle.http_message.specs.declared.message.Message as read
 use Rattle.policy_tables.specs.View.{address_view}
@@ -59,6 +60,10 @@ Judges wanted w (Err NoMemory) = ⊤
 -- the message of a block with these holes
 abbrev pub keeps_holes : ℕ → List HolePlace → Tree → Result Message spec.OpWhy
 keeps_holes n holes w = read_again n w >>= λ d. if same_places (places w n) (Ok holes) then Ok d else Err hole_moved
+
+-- the same again, compared with the message c before
+abbrev pub judged_again : Policy → Option ℕ → List ℕ → ℕ → List HolePlace → Message → Tree → Result (Tree × Message) spec.OpWhy
+judged_again pol k ipx n holes c w = keeps_holes n holes w >>= λ d. unless_fixed (spec.first_fixed pol k ipx c d) (w, d)
 
 abbrev pub Reads : Result Message spec.OpWhy → Result read.Message StepFault → Type 0
 Reads wanted (Ok m) = wanted ≡ Ok (message_view m)

@@ -8,7 +8,7 @@ use Rattle.block_patch.proofs.entry.all_steps.Goals as goal
 
 pub loop-i-preserved : goal.loop-i-preserved
 loop-i-preserved c =
-    let r = c.args.rules in
+    let r = c.args.rules.now in
     let l = c.loop-i.invariant in
     let j = c.loop-i.current.doc in
     let m = message_view c.loop-i.current.message in
@@ -22,7 +22,7 @@ loop-i-preserved c =
 
 pub returns : goal.returns
 returns c =
-    let r = c.args.rules in
+    let r = c.args.rules.now in
     let l = c.loop-i.invariant in
     record {
       outcome = told_end r.policy.now r.mapping r.ipx.now r.holes c.loop-i.i c.args.operations.now c.loop-i.current.doc (message_view c.loop-i.current.message) _ (omega arith) l.told;

@@ -8,4 +8,4 @@ pub returns-in-Ok-clause-block : goal.returns-in-Ok-clause-block
 returns-in-Ok-clause-block c =
     let j = c.args.block.now in
     subst (λ t. IsBlock t c.args.count (message_view c.in_ok-message.message)) (sym c.in-Ok.ensures)
-    (c.block_has_one_message.ensures.back j c.args.count (message_view c.in_ok-message.message) (ordered_of j c.node.ensures.tree) c.requires c.in_ok-message.ensures)
+    (c.block_has_one_message.ensures.back j c.args.count (message_view c.in_ok-message.message) (ordered_of j c.node-known.ensures.tree) c.requires c.in_ok-message.ensures)

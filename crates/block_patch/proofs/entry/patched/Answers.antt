@@ -8,7 +8,7 @@ use Rattle.block_patch.proofs.entry.patched.Goals as goal
 
 pub returns-in-Ok-clause-outcome : goal.returns-in-Ok-clause-outcome
 returns-in-Ok-clause-outcome c = λ m b.
-    let r = c.args.rules in
+    let r = c.args.rules.now in
     let start = c.in-Ok.start in
     let there = subst (λ t. IsBlock t r.holes (message_view start.message)) c.in-Ok.ensures.value c.in-Ok.ensures.block in
     let same = c.block_has_one_message.ensures.same c.args.block.now r.holes (message_view start.message) m there b in

@@ -7,4 +7,4 @@ use Rattle.block_patch.proofs.guards.without.Goals as goal
 pub returns-in-Ok : goal.returns-in-Ok
 returns-in-Ok c =
     subst (λ x. IfOk c.made.result (λ d. d ≡ x))
-    (ap (λ o. result_ok (patched c.args.block.now o)) c.in-Ok.ensures ∙ removal_fits c.args.from.now c.args.block.now c.node.ensures.shallow) c.made.ensures
+    (ap (λ o. result_ok (patched c.args.block.now o)) c.in-Ok.ensures ∙ removal_fits c.args.from.now c.args.block.now c.node-known.ensures.shallow) c.made.ensures
