@@ -18,9 +18,11 @@ use Rattle.spec_messages.proofs.OnePlaces.{one-place, index-below}
 use Rattle.n32_values.proofs.Trees.{drop_at}
 use Rattle.json_patch6902.specs.declared.op.Op.{Op}
 use Rattle.json_patch6902.specs.View.{op_view}
+use Rattle.block_patch.specs.declared.fault.StepFault.{StepFault}
+use Rattle.block_patch.specs.declared.fault.StepFault.TheVariants.{Why, NoMemory}
 use Rattle.block_patch.specs.declared.fault.EntryFault.{EntryFault}
 use Rattle.block_patch.specs.declared.fault.EntryFault.TheVariants as entry
-use Rattle.block_patch.specs.Answers.{Runs, Answers, TurnedDown, why_view}
+use Rattle.block_patch.specs.Answers.{Gives, Numbers, Runs, Answers, why_view}
 use Rattle.block_patch.specs.Commutes.{BlockOf, ground}
 
 -- what the operations from place i on make
@@ -44,6 +46,11 @@ pub told_refused : (pol : Policy) (k : Option ℕ) (ipx : List ℕ) (n i : ℕ) 
 told_refused pol k ipx n i ops op j c why all is e told =
     let more : suc i ≡ i + 1 = omega arith in
     sym told ∙ (first_of_rest pol k ipx n i ops op j c (Err why) is e ∙ ap (λ m. Err (m, why)) more)
+
+-- what is answered of the whole where operation i + 1 is refused
+pub told_number : (i : ℕ) (f : StepFault) (g : EntryFault) (r : Result (Tree × Message) OpWhy) (all : Result (Tree × Message) (ℕ × OpWhy)) → Gives r (Err f) → Numbers (i + 1) f g → ((why : OpWhy) → r ≡ Err why → all ≡ Err (i + 1, why)) → Runs all (Err g)
+told_number i (Why y) g r all e is first = subst (λ h. Runs all (Err h)) (sym is) (first (why_view y) e)
+told_number i NoMemory g r all e is first = subst (λ h. Runs all (Err h)) (sym is) tt
 
 past : (i : ℕ) (ops : List Op) → i ≡ length ops → drop i ops ≡ []
 past zero [] e = refl
@@ -125,10 +132,10 @@ pub block_of : (j : Tree) (n : ℕ) (b : BlockOf j) (w : Tree) (d : Message) →
 block_of j n b w d e is = subst (λ m. IsBlock w m d) (count_of j n b e) is
 
 -- a refusal, in the terms of any reading of the block
-pub turned_down : {A : Type 0} (pol : Policy) (k : Option ℕ) (ipx : List ℕ) (ops : List patch.Op) (j : Tree) (n : ℕ) (b : BlockOf j) (f : EntryFault) → block_fault j n ≡ None
+pub turned_down : (A : Type 0) (pol : Policy) (k : Option ℕ) (ipx : List ℕ) (ops : List patch.Op) (j : Tree) (n : ℕ) (b : BlockOf j) (f : EntryFault) → block_fault j n ≡ None
     → ((c : Message) → IsBlock j n c → Runs (entry_outcome pol k ipx n j c ops) (Err f)) → ((g : Ground) (i : ℕ) (why : OpWhy) → entry_on g ops ≡ Err (i, why) → FirstRefused g ops i why)
     → Answers {A = A} (ground pol k ipx j b) ops j (Err f)
-turned_down pol k ipx ops j n b (entry.Operation i why) e told first =
+turned_down A pol k ipx ops j n b (entry.Operation i why) e told first =
     let outcome = told_of pol k ipx ops j n b (Err (i, why_view why)) e told in
     record { outcome = outcome; first = first (ground pol k ipx j b) i (why_view why) outcome }
-turned_down pol k ipx ops j n b entry.NoMemory e told first = tt
+turned_down A pol k ipx ops j n b entry.NoMemory e told first = tt

@@ -141,8 +141,8 @@ pub fn apply_entry(
         holes: block.holes(),
     };
     match patched(alloc, &rules, block, operations) {
-        Ok(Patched { doc, .. }) => {
-            *block = Block::of_doc(doc, rules.holes);
+        Ok(made) => {
+            *block = made.into_block(rules.holes);
             Ok(())
         }
         Err(fault) => Err(fault),

@@ -1,7 +1,8 @@
 // One operation of an entry: what it makes of a block and of the message that the block stands for.
-ghost use Rattle.std.specs.Prelude.{◌≡◌, Ok, slice_get};
+ghost use Rattle.std.specs.Prelude.{◌≡◌, None, Ok, slice_get};
 ghost use Rattle.spec_documents.specs.Hole.{places as places_of};
 ghost use Rattle.spec_messages.specs.Entry as entries;
+ghost use Rattle.spec_messages.specs.Fault.{block_fault};
 ghost use Rattle.spec_messages.specs.Outcome as spec;
 ghost use Rattle.http_message.specs.Reading.{message_view};
 ghost use Rattle.enc_index.specs.Places.{place_view};
@@ -11,7 +12,7 @@ ghost use Rattle.block_patch.specs.Places.{same_place_option};
 
 use crate::fault::{OpWhy, StepFault};
 use crate::outcome::outcome;
-use block_forms::{BlockRead, BlockReading};
+use block_forms::{Block, BlockRead, BlockReading};
 use enc_index::{Holes, Place};
 use http_message::Message;
 use json_patch6902::Op;
@@ -36,6 +37,18 @@ pub(crate) struct Rules<'a> {
 pub(crate) struct Patched {
     pub(crate) doc: Doc,
     pub(crate) message: Message,
+}
+
+impl Patched {
+    // Its block, which is moved.
+    pub(crate) fn into_block(self, holes: u32) -> Block
+        requires { block_fault self.doc holes ≡ None }
+        ensures value { result ≡ self.doc }
+        ensures holes { block_fault result holes ≡ None }
+    {
+        let Patched { doc, .. } = self;
+        Block::of_doc(doc, holes)
+    }
 }
 
 fn is_same_pointer(one: &Pointer, other: &Pointer) -> bool

@@ -11,8 +11,8 @@ use Rattle.block_patch.specs.Commutes.{BlockOf, ground, entry_step}
 use Rattle.block_patch.proofs.Entries.{told_of, block_of, one_entry, one_chain, turned_down}
 use Rattle.block_patch.proofs.entry.apply_entry.Goals as goal
 
-pub of_doc-requires : goal.of_doc-requires
-of_doc-requires c = c.fault_decides.ensures.none c.in-Ok.doc c.holes.result (message_view c.in-Ok.message) c.in-Ok.ensures.block
+pub into_block-requires : goal.into_block-requires
+into_block-requires c = c.fault_decides.ensures.none c.in-Ok.made.doc c.holes.result (message_view c.in-Ok.made.message) c.in-Ok.ensures.block
 
 pub returns-in-Ok : goal.returns-in-Ok
 returns-in-Ok c =
@@ -22,17 +22,17 @@ returns-in-Ok c =
     let j = c.args.block.now in
     let n = c.holes.result in
     let ops = map op_view c.args.operations.now in
-    let w = c.of_doc.result in
-    let d = message_view c.in-Ok.message in
+    let w = c.into_block.result in
+    let d = message_view c.in-Ok.made.message in
     let made : (b : BlockOf j) → Made (ground pol k ipx j b) ops w = λ b.
     let g = ground pol k ipx j b in
-    let told = λ (m : _) (is : IsBlock j n m). subst (λ t. entry_outcome pol k ipx n j m ops ≡ Ok (t, d)) (sym c.of_doc.ensures.value) (c.in-Ok.ensures.outcome m is) in
+    let told = λ (m : _) (is : IsBlock j n m). subst (λ t. entry_outcome pol k ipx n j m ops ≡ Ok (t, d)) (sym c.into_block.ensures.value) (c.in-Ok.ensures.outcome m is) in
     let outcome = told_of pol k ipx ops j n b (Ok (w, d)) c.holes.ensures told in
     record {
       message = d;
       outcome = outcome;
       applied = c.entry_outcome_decides.ensures.made g ops (w, d) outcome;
-      block = block_of j n b w d c.holes.ensures (subst (λ t. IsBlock t n d) (sym c.of_doc.ensures.value) c.in-Ok.ensures.block);
+      block = block_of j n b w d c.holes.ensures (subst (λ t. IsBlock t n d) (sym c.into_block.ensures.value) c.in-Ok.ensures.block);
     } in
     let step : (b : BlockOf j) → EntryStep = λ b. entry_step (ground pol k ipx j b) ops w d (made b).applied in
     let chain : (b : BlockOf j) → ChainStep = λ b. one_chain (step b) in
@@ -65,7 +65,7 @@ returns-in-Ok c =
       };
     }
 
-pub returns-in-Err-clause-answer : goal.returns-in-Err-clause-answer
-returns-in-Err-clause-answer c = λ b.
-    turned_down c.args.policy.now c.args.mapping c.args.ipx.now (map op_view c.args.operations.now) c.args.block.now c.holes.result b c.in-Err.fault c.holes.ensures c.in-Err.ensures.outcome
+pub returns-clause-answer : goal.returns-clause-answer
+returns-clause-answer c = λ b.
+    turned_down _ c.args.policy.now c.args.mapping c.args.ipx.now (map op_view c.args.operations.now) c.args.block.now c.holes.result b c.in-Err.fault c.holes.ensures c.in-Err.ensures.outcome
     (λ g i why e. c.entry_outcome_decides.ensures.refused g (map op_view c.args.operations.now) i why e)
