@@ -39,6 +39,7 @@ returns-in-Ok c =
     let law = c.patching_commutes_with_filling.ensures in
     record {
       answer = made;
+      as_before = tt;
       filled = λ b. record {
         message = d;
         applied = (made b).applied;
@@ -65,7 +66,7 @@ returns-in-Ok c =
       };
     }
 
-pub returns-clause-answer : goal.returns-clause-answer
-returns-clause-answer c = λ b.
+pub returns-in-Err-clause-answer : goal.returns-in-Err-clause-answer
+returns-in-Err-clause-answer c = λ b.
     turned_down _ c.args.policy.now c.args.mapping c.args.ipx.now (map op_view c.args.operations.now) c.args.block.now c.holes.result b c.in-Err.fault c.holes.ensures c.in-Err.ensures.outcome
     (λ g i why e. c.entry_outcome_decides.ensures.refused g (map op_view c.args.operations.now) i why e)
