@@ -22,7 +22,7 @@ use Rattle.block_patch.specs.declared.fault.StepFault.{StepFault}
 use Rattle.block_patch.specs.declared.fault.StepFault.TheVariants.{Why, NoMemory}
 use Rattle.block_patch.specs.declared.fault.EntryFault.{EntryFault}
 use Rattle.block_patch.specs.declared.fault.EntryFault.TheVariants as entry
-use Rattle.block_patch.specs.Answers.{Gives, Numbers, Runs, Answers, why_view}
+use Rattle.block_patch.specs.Answers.{Gives, Numbers, Runs, Refuses, why_view}
 use Rattle.block_patch.specs.Commutes.{BlockOf, ground}
 
 -- what the operations from place i on make
@@ -132,10 +132,10 @@ pub block_of : (j : Tree) (n : ℕ) (b : BlockOf j) (w : Tree) (d : Message) →
 block_of j n b w d e is = subst (λ m. IsBlock w m d) (count_of j n b e) is
 
 -- a refusal, in the terms of any reading of the block
-pub turned_down : (A : Type 0) (pol : Policy) (k : Option ℕ) (ipx : List ℕ) (ops : List patch.Op) (j : Tree) (n : ℕ) (b : BlockOf j) (f : EntryFault) → block_fault j n ≡ None
+pub refused : (pol : Policy) (k : Option ℕ) (ipx : List ℕ) (ops : List patch.Op) (j : Tree) (n : ℕ) (b : BlockOf j) (f : EntryFault) → block_fault j n ≡ None
     → ((c : Message) → IsBlock j n c → Runs (entry_outcome pol k ipx n j c ops) (Err f)) → ((g : Ground) (i : ℕ) (why : OpWhy) → entry_on g ops ≡ Err (i, why) → FirstRefused g ops i why)
-    → Answers {A = A} (ground pol k ipx j b) ops j (Err f)
-turned_down A pol k ipx ops j n b (entry.Operation i why) e told first =
+    → Refuses (ground pol k ipx j b) ops f
+refused pol k ipx ops j n b (entry.Operation i why) e told first =
     let outcome = told_of pol k ipx ops j n b (Err (i, why_view why)) e told in
     record { outcome = outcome; first = first (ground pol k ipx j b) i (why_view why) outcome }
-turned_down A pol k ipx ops j n b entry.NoMemory e told first = tt
+refused pol k ipx ops j n b entry.NoMemory e told first = tt

@@ -98,12 +98,15 @@ pub record Made (g : Ground) (ops : List Op) (w : Tree) : Type 0 where
   pub block : IsBlock w g.holes message
 
 -- operation i, from 1, is the first that isn't allowed, and why is the first reason
-pub record TurnedDown (g : Ground) (ops : List Op) (i : ℕ) (why : spec.OpWhy) : Type 0 where
+pub record RefusedAt (g : Ground) (ops : List Op) (i : ℕ) (why : spec.OpWhy) : Type 0 where
   pub outcome : entry_on g ops ≡ Err (i, why)
   pub first : FirstRefused g ops i why
+
+abbrev pub Refuses : Ground → List Op → EntryFault → Type 0
+Refuses g ops (entry.Operation i why) = RefusedAt g ops i (why_view why)
+Refuses g ops entry.NoMemory = ⊤
 
 -- the block w that the entry makes, or the first operation that isn't allowed with its first reason
 abbrev pub Answers : {A : Type 0} → Ground → List Op → Tree → Result A EntryFault → Type 0
 Answers g ops w (Ok _) = Made g ops w
-Answers g ops w (Err (entry.Operation i why)) = TurnedDown g ops i (why_view why)
-Answers g ops w (Err entry.NoMemory) = ⊤
+Answers g ops w (Err fault) = Refuses g ops fault

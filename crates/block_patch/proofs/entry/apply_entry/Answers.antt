@@ -8,7 +8,7 @@ use Rattle.spec_messages.specs.Steps.{EntryStep, ChainStep, EntryKept}
 use Rattle.spec_messages.proofs.FilledStands.{fill_parts_of}
 use Rattle.block_patch.specs.Answers.{Made}
 use Rattle.block_patch.specs.Commutes.{BlockOf, ground, entry_step}
-use Rattle.block_patch.proofs.Entries.{told_of, block_of, one_entry, one_chain, turned_down}
+use Rattle.block_patch.proofs.Entries.{told_of, block_of, one_entry, one_chain, refused}
 use Rattle.block_patch.proofs.entry.apply_entry.Goals as goal
 
 pub into_block-requires : goal.into_block-requires
@@ -68,5 +68,5 @@ returns-in-Ok c =
 
 pub returns-in-Err-clause-answer : goal.returns-in-Err-clause-answer
 returns-in-Err-clause-answer c = λ b.
-    turned_down _ c.args.policy.now c.args.mapping c.args.ipx.now (map op_view c.args.operations.now) c.args.block.now c.holes.result b c.in-Err.fault c.holes.ensures c.in-Err.ensures.outcome
+    refused c.args.policy.now c.args.mapping c.args.ipx.now (map op_view c.args.operations.now) c.args.block.now c.holes.result b c.in-Err.fault c.holes.ensures c.in-Err.ensures.outcome
     (λ g i why e. c.entry_outcome_decides.ensures.refused g (map op_view c.args.operations.now) i why e)
