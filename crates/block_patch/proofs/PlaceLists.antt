@@ -1,5 +1,5 @@
 -- Lists of places, compared item by item.
-use Rattle.std.proofs.Common.{◌≡◌, ℕ, zero, suc, ◌+◌, ◌<◌, List, [], ◌∷◌, length, Bool, true, false, ◌&&◌, Option, Some, None, refl, sym, ap, ◌∙◌, subst, drop, slice_get, bytes_eq, arith}
+use Rattle.std.proofs.Common.{◌≡◌, ℕ, zero, suc, ◌+◌, ◌<◌, List, [], ◌∷◌, length, Bool, true, false, ◌&&◌, refl, sym, ap, ◌∙◌, subst, drop, slice_get, bytes_eq, arith}
 use Rattle.spec_documents.specs.Hole.{HolePlace}
 use Rattle.spec_documents.specs.Place.{Pointer, is_prefix}
 use Rattle.spec_messages.specs.Outcome.{same_pointer, same_place, same_place_list}

@@ -1,5 +1,5 @@
 -- What is read again of a result, and what an operation comes to.
-use Rattle.std.proofs.Common.{◌≡◌, ℕ, suc, List, [], ◌∷◌, Bool, true, false, not, ◌&&◌, Option, Some, None, Result, Ok, Err, refl, sym, ap, ap₂, ◌∙◌, subst, is_some, if◌then◌else◌}
+use Rattle.std.proofs.Common.{◌≡◌, ℕ, List, Bool, true, false, not, ◌&&◌, Option, Some, None, Result, Ok, Err, refl, ap, ap₂, ◌∙◌, is_some, if◌then◌else◌}
 use Rattle.std.proofs.lemmas.Bool.{and_parts, and_from}
 use Rattle.spec_documents.specs.Tree.{Tree, is_tree, is_ordered}
 use Rattle.spec_documents.specs.Place.{◌>>=◌}

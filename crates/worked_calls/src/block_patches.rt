@@ -86,7 +86,13 @@ fn refused_node(alloc: Global, fault: EntryFault, block: &Block, start: &Doc) ->
 }
 
 fn changed_node(alloc: Global, change: Change<'_>, mut block: Block) -> Option<Node> {
-    let Change { start, operations, policy, mapping, ipx } = change;
+    let Change {
+        start,
+        operations,
+        policy,
+        mapping,
+        ipx,
+    } = change;
     if operations.len() > 64 {
         return None;
     }

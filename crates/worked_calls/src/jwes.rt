@@ -4,8 +4,7 @@ use crate::keys::{block_of, key_of, nonce_of};
 use crate::nodes::{fault_node, text_node};
 use crate::values::words_of;
 use jwe_flat::{
-    CipherWhy, ContentKey, FlatJwe, JweOpen, JweRead, jwe_doc, open_jwe, read_jwe,
-    seal_jwe,
+    CipherWhy, ContentKey, FlatJwe, JweOpen, JweRead, jwe_doc, open_jwe, read_jwe, seal_jwe,
 };
 use n32_values::{Node, Text, read_base64url};
 use std::alloc::Global;

@@ -6,8 +6,7 @@ use crate::values::words_of;
 use http_message::Kind;
 use n32_values::{Node, NodeList, NodeMap, copy_doc};
 use prins_document::{
-    ValuesRead, WireDoc, WireRead, entries, read_values, read_wire_doc, values_text,
-    wire_doc,
+    ValuesRead, WireDoc, WireRead, entries, read_values, read_wire_doc, values_text, wire_doc,
 };
 use std::alloc::Global;
 

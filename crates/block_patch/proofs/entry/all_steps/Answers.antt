@@ -2,7 +2,7 @@ use Rattle.std.proofs.Common.{◌∙◌, arith}
 use Rattle.http_message.specs.Reading.{message_view}
 use Rattle.json_patch6902.specs.View.{op_view}
 use Rattle.spec_messages.specs.Outcome.{Ground}
-use Rattle.block_patch.specs.Answers.{patched_view, why_view}
+use Rattle.block_patch.specs.Answers.{patched_view}
 use Rattle.block_patch.proofs.Entries.{told_later, told_refused, told_number, told_end}
 use Rattle.block_patch.proofs.entry.all_steps.Goals as goal
 

@@ -1,4 +1,4 @@
-use Rattle.std.proofs.Common.{◌≡◌, [], ◌∷◌, Ok, refl, sym, subst, map}
+use Rattle.std.proofs.Common.{◌≡◌, Ok, sym, subst, map}
 use Rattle.http_message.specs.Reading.{message_view}
 use Rattle.json_patch6902.specs.View.{op_view}
 use Rattle.spec_messages.specs.Split.{fill_whole}

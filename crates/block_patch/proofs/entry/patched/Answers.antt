@@ -1,4 +1,4 @@
-use Rattle.std.proofs.Common.{sym, ap₂, subst, map}
+use Rattle.std.proofs.Common.{ap₂, subst, map}
 use Rattle.http_message.specs.Reading.{message_view}
 use Rattle.json_patch6902.specs.View.{op_view}
 use Rattle.spec_messages.specs.Block.{IsBlock}
