@@ -1,5 +1,5 @@
 -- The operations of an entry, one by one, and what they lead to.
-use Rattle.std.proofs.Common.{◌≡◌, ℕ, zero, suc, ◌+◌, ◌<◌, List, [], ◌∷◌, map, length, Option, Some, Result, Ok, Err, refl, sym, ap, ◌∙◌, subst, inl, inr, drop, slice_get, arith}
+use Rattle.std.proofs.Common.{◌≡◌, ℕ, zero, suc, ◌+◌, ◌<◌, List, [], ◌∷◌, map, length, Option, Some, None, Result, Ok, Err, refl, sym, ap, ◌∙◌, subst, inl, inr, drop, slice_get, arith}
 use Rattle.std.specs.Prelude.{◌⊎◌}
 use Rattle.spec_documents.specs.Tree.{Tree}
 use Rattle.spec_documents.specs.Place.{Cause, ◌>>=◌}
@@ -7,14 +7,23 @@ use Rattle.spec_documents.specs.Patch as patch
 use Rattle.spec_messages.specs.Message.{Message}
 use Rattle.spec_messages.specs.Policy.{Policy}
 use Rattle.spec_messages.specs.Block.{IsBlock}
+use Rattle.spec_messages.specs.Fault.{block_fault}
 use Rattle.spec_messages.specs.Entry.{OpWhy}
 use Rattle.spec_messages.specs.Changed.{patched_all}
-use Rattle.spec_messages.specs.Outcome.{operation_outcome, numbered_cause, outcome_from}
-use Rattle.spec_messages.proofs.BlockLaws.{block-clear}
+use Rattle.spec_messages.specs.Steps.{EntryStep, ChainStep}
+use Rattle.spec_messages.specs.Outcome.{operation_outcome, numbered_cause, outcome_from, entry_outcome, Ground, FirstRefused, entry_on}
+use Rattle.spec_messages.proofs.BlockLaws.{block-clear, faultless-block}
+use Rattle.spec_messages.proofs.BlockOrder.{block-ordered}
 use Rattle.spec_messages.proofs.OnePlaces.{one-place, index-below}
 use Rattle.n32_values.proofs.Trees.{drop_at}
 use Rattle.json_patch6902.specs.declared.op.Op.{Op}
 use Rattle.json_patch6902.specs.View.{op_view}
+use Rattle.block_patch.specs.declared.fault.StepFault.{StepFault}
+use Rattle.block_patch.specs.declared.fault.StepFault.TheVariants.{Why, NoMemory}
+use Rattle.block_patch.specs.declared.fault.EntryFault.{EntryFault}
+use Rattle.block_patch.specs.declared.fault.EntryFault.TheVariants as entry
+use Rattle.block_patch.specs.Answers.{Gives, Numbers, Runs, Refuses, why_view}
+use Rattle.block_patch.specs.Commutes.{BlockOf, ground}
 
 -- what the operations from place i on make
 abbrev pub from_on : Policy → Option ℕ → List ℕ → ℕ → ℕ → List Op → Tree → Message → Result (Tree × Message) (ℕ × OpWhy)
@@ -37,6 +46,11 @@ pub told_refused : (pol : Policy) (k : Option ℕ) (ipx : List ℕ) (n i : ℕ) 
 told_refused pol k ipx n i ops op j c why all is e told =
     let more : suc i ≡ i + 1 = omega arith in
     sym told ∙ (first_of_rest pol k ipx n i ops op j c (Err why) is e ∙ ap (λ m. Err (m, why)) more)
+
+-- what is answered of the whole where operation i + 1 is refused
+pub told_number : (i : ℕ) (f : StepFault) (g : EntryFault) (r : Result (Tree × Message) OpWhy) (all : Result (Tree × Message) (ℕ × OpWhy)) → Gives r (Err f) → Numbers (i + 1) f g → ((why : OpWhy) → r ≡ Err why → all ≡ Err (i + 1, why)) → Runs all (Err g)
+told_number i (Why y) g r all e is first = subst (λ h. Runs all (Err h)) (sym is) (first (why_view y) e)
+told_number i NoMemory g r all e is first = subst (λ h. Runs all (Err h)) (sym is) tt
 
 past : (i : ℕ) (ops : List Op) → i ≡ length ops → drop i ops ≡ []
 past zero [] e = refl
@@ -79,9 +93,49 @@ one_count j n m c d b e = by (either n m)
 
 -- ---- an entry is a chain of one
 
+abbrev pub one_chain : EntryStep → ChainStep
+one_chain s = record {
+  policy = s.policy;
+  mapping = s.mapping;
+  holes = s.holes;
+  entries = (s.ipx, s.operations) ∷ [];
+  before = s.before;
+  clear = s.clear;
+  after = s.after;
+  patched = s.patched;
+  block = s.block;
+  applied = (s.after, s.patched, s.applied, (refl, refl));
+}
+
 pub one_entry : (ops : List patch.Op) (t w : Tree) → (patched_all ops t >>= λ x. Ok x) ≡ Ok w → patched_all ops t ≡ Ok w
 one_entry ops t w e = by (patched_all ops t) e
   where
     by : (r : Result Tree Cause) → (r >>= λ x. Ok x) ≡ Ok w → r ≡ Ok w
     by (Ok x) e = e
     by (Err why) e = cc
+
+-- ---- what is known of a block stands for all that can be known of it
+
+pub count_of : (j : Tree) (n : ℕ) (b : BlockOf j) → block_fault j n ≡ None → n ≡ b.holes
+count_of j n b e =
+    let k = faultless-block j n (block-ordered j b.holes b.clear b.block) e in
+    one_count j n b.holes k.0 b.clear k.1 b.block
+
+-- the outcome over as many holes as the block is known to have, under any reading of it
+pub told_of : (pol : Policy) (k : Option ℕ) (ipx : List ℕ) (ops : List patch.Op) (j : Tree) (n : ℕ) (b : BlockOf j) (r : Result (Tree × Message) (ℕ × OpWhy)) → block_fault j n ≡ None
+    → ((c : Message) → IsBlock j n c → entry_outcome pol k ipx n j c ops ≡ r) → entry_on (ground pol k ipx j b) ops ≡ r
+told_of pol k ipx ops j n b r e told =
+    let same = count_of j n b e in
+    subst (λ m. entry_outcome pol k ipx m j b.clear ops ≡ r) same (told b.clear (subst (λ m. IsBlock j m b.clear) (sym same) b.block))
+
+pub block_of : (j : Tree) (n : ℕ) (b : BlockOf j) (w : Tree) (d : Message) → block_fault j n ≡ None → IsBlock w n d → IsBlock w b.holes d
+block_of j n b w d e is = subst (λ m. IsBlock w m d) (count_of j n b e) is
+
+-- a refusal, in the terms of any reading of the block
+pub refused : (pol : Policy) (k : Option ℕ) (ipx : List ℕ) (ops : List patch.Op) (j : Tree) (n : ℕ) (b : BlockOf j) (f : EntryFault) → block_fault j n ≡ None
+    → ((c : Message) → IsBlock j n c → Runs (entry_outcome pol k ipx n j c ops) (Err f)) → ((g : Ground) (i : ℕ) (why : OpWhy) → entry_on g ops ≡ Err (i, why) → FirstRefused g ops i why)
+    → Refuses (ground pol k ipx j b) ops f
+refused pol k ipx ops j n b (entry.Operation i why) e told first =
+    let outcome = told_of pol k ipx ops j n b (Err (i, why_view why)) e told in
+    record { outcome = outcome; first = first (ground pol k ipx j b) i (why_view why) outcome }
+refused pol k ipx ops j n b entry.NoMemory e told first = tt

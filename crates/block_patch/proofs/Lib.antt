@@ -1,4 +1,4 @@
 mod PlaceLists
-mod Fronts
+mod Overwriting
 mod Results
 mod Entries

@@ -1,19 +1,21 @@
 -- Lists of places, compared item by item.
-use Rattle.std.proofs.Common.{◌≡◌, ℕ, zero, suc, ◌+◌, ◌<◌, List, [], ◌∷◌, length, Bool, true, false, ◌&&◌, Option, Some, None, refl, sym, ap, ◌∙◌, drop, slice_get, bytes_eq, arith}
+use Rattle.std.proofs.Common.{◌≡◌, ℕ, zero, suc, ◌+◌, ◌<◌, List, [], ◌∷◌, length, Bool, true, false, ◌&&◌, refl, sym, ap, ◌∙◌, subst, drop, slice_get, bytes_eq, arith}
 use Rattle.spec_documents.specs.Hole.{HolePlace}
 use Rattle.spec_documents.specs.Place.{Pointer, is_prefix}
 use Rattle.spec_messages.specs.Outcome.{same_pointer, same_place, same_place_list}
 use Rattle.block_patch.specs.Places.{same_place_option}
 
 -- the lists from place i on are the same where the places there are, and what comes after
-same_at : (b : Bool) (i : ℕ) (ps qs : List HolePlace) → i < length ps → length ps ≡ length qs → same_place_option (slice_get ps i) (slice_get qs i) ≡ b → same_place_list (drop i ps) (drop i qs) ≡ b && same_place_list (drop (i + 1) ps) (drop (i + 1) qs)
+same_at : (b : Bool) (i : ℕ) (ps qs : List HolePlace) → i < length ps → length ps ≡ length qs → same_place_option (slice_get ps i) (slice_get qs i) ≡ b → same_place_list (drop i ps) (drop i qs) ≡ b && same_place_list (drop (suc i) ps) (drop (suc i) qs)
 same_at b i [] qs l e h = absurd (omega arith)
 same_at b i (p ∷ ps) [] l e h = cc
 same_at b zero (p ∷ ps) (q ∷ qs) l e h = ap (λ x. x && same_place_list ps qs) h
 same_at b (suc i) (p ∷ ps) (q ∷ qs) l e h = let count : length ps ≡ length qs = cc in same_at b i ps qs (omega arith) count h
 
 pub same_later : (i : ℕ) (ps qs : List HolePlace) (all : Bool) → i < length ps → length ps ≡ length qs → same_place_list (drop i ps) (drop i qs) ≡ all → same_place_option (slice_get ps i) (slice_get qs i) ≡ true → same_place_list (drop (i + 1) ps) (drop (i + 1) qs) ≡ all
-same_later i ps qs all l e is h = sym (same_at true i ps qs l e h) ∙ is
+same_later i ps qs all l e is h =
+    let next : suc i ≡ i + 1 = omega arith in
+    subst (λ m. same_place_list (drop m ps) (drop m qs) ≡ all) next (sym (same_at true i ps qs l e h) ∙ is)
 
 pub same_not : (i : ℕ) (ps qs : List HolePlace) (all : Bool) → i < length ps → length ps ≡ length qs → same_place_list (drop i ps) (drop i qs) ≡ all → same_place_option (slice_get ps i) (slice_get qs i) ≡ false → false ≡ all
 same_not i ps qs all l e is h = sym (same_at false i ps qs l e h) ∙ is

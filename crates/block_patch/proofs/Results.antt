@@ -1,5 +1,5 @@
 -- What is read again of a result, and what an operation comes to.
-use Rattle.std.proofs.Common.{◌≡◌, ℕ, suc, List, [], ◌∷◌, Bool, true, false, not, ◌&&◌, Option, Some, None, Result, Ok, Err, refl, sym, ap, ap₂, ◌∙◌, subst, is_some, if◌then◌else◌}
+use Rattle.std.proofs.Common.{◌≡◌, ℕ, List, Bool, true, false, not, ◌&&◌, Option, Some, None, Result, Ok, Err, refl, ap, ap₂, ◌∙◌, is_some, if◌then◌else◌}
 use Rattle.std.proofs.lemmas.Bool.{and_parts, and_from}
 use Rattle.spec_documents.specs.Tree.{Tree, is_tree, is_ordered}
 use Rattle.spec_documents.specs.Place.{◌>>=◌}
@@ -10,7 +10,9 @@ use Rattle.spec_messages.specs.Block.{clear_message}
 use Rattle.spec_messages.specs.Fault.{BlockFault, block_fault}
 use Rattle.spec_messages.specs.Entry.{OpWhy, not_block, hole_moved, first_fixed}
 use Rattle.spec_messages.specs.Outcome.{same_place_list, same_places, message_or, read_again, unless_fixed, compared}
-use Rattle.block_forms.specs.Faults.{Tells}
+use Rattle.block_forms.specs.Faults.{Tells, Refuses}
+use Rattle.block_forms.specs.declared.fault.BlockRead.{BlockRead}
+use Rattle.block_forms.specs.declared.fault.BlockRead.TheVariants as reads
 use Rattle.block_forms.specs.declared.fault.BlockWhy.{BlockWhy}
 use Rattle.block_forms.specs.declared.fault.BlockWhy.TheVariants as why
 use Rattle.block_patch.specs.declared.fault.StepFault.{StepFault}
@@ -44,6 +46,10 @@ read_some n w d o f m = ap₂ (λ (b : Bool) r. if b then r else Err not_block) 
 -- a document with a fault is no block
 pub faulty : (n : ℕ) (holes : List HolePlace) (w : Tree) (y : BlockWhy) → Tells y (block_fault w n) → keeps_holes n holes w ≡ Err not_block
 faulty n holes w y e = ap (λ r. r >>= λ d. if same_places (places w n) (Ok holes) then Ok d else Err hole_moved) (read_none n w (told_some y (block_fault w n) e))
+
+pub refused_read : {y : BlockWhy} (n : ℕ) (holes : List HolePlace) (w : Tree) (r : BlockRead) → r ≡ reads.Refused y → Refuses r (block_fault w n) → keeps_holes n holes w ≡ Err not_block
+refused_read n holes w (reads.Refused y) is e = faulty n holes w y e
+refused_read n holes w reads.NoMemory is e = cc
 
 -- a block's message, where its holes are those
 pub kept : (n : ℕ) (holes news : List HolePlace) (w : Tree) (d : Message) → is_ordered w ≡ true → block_fault w n ≡ None → clear_message w ≡ Some d → places w n ≡ Ok news → same_place_list news holes ≡ true → keeps_holes n holes w ≡ Ok d

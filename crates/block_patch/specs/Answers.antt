@@ -1,17 +1,15 @@
 -- What an operation of an entry, and an entry, answers.
-use Rattle.std.specs.Prelude.{◌≡◌, ⊤, ℕ, List, Bool, Option, Result, Ok, Err, Some, if◌then◌else◌}
+use Rattle.std.specs.Prelude.{◌≡◌, ⊤, ℕ, List, Bool, Option, Result, Ok, Err, if◌then◌else◌}
 use Rattle.spec_documents.specs.Tree.{Tree}
 use Rattle.spec_documents.specs.Place.{◌>>=◌}
 use Rattle.spec_documents.specs.Patch.{Op}
-use Rattle.spec_documents.specs.Hole.{HolePlace, places, fill_all}
+use Rattle.spec_documents.specs.Hole.{HolePlace, places}
 use Rattle.spec_messages.specs.Message.{Message}
-use Rattle.spec_messages.specs.Split.{filled, fill_whole}
-use Rattle.spec_messages.specs.Block.{StandsFor}
+use Rattle.spec_messages.specs.Policy.{Policy}
+use Rattle.spec_messages.specs.Block.{IsBlock}
 use Rattle.spec_messages.specs.Entry as spec
 use Rattle.spec_messages.specs.Entry.{hole_value, into_hole, patch, hole_taken, too_large, metadata, not_block, hole_moved, not_modifiable}
-use Rattle.spec_messages.specs.Changed.{patched_all}
-use Rattle.spec_messages.specs.Outcome.{same_places, read_again}
-use Rattle.spec_messages.specs.Steps.{Fills, InOrder, HoleOf, HasValue}
+use Rattle.spec_messages.specs.Outcome.{Ground, AppliedOn, FirstRefused, entry_on, same_places, read_again, unless_fixed}
 use Rattle.http_message.specs.Reading.{message_view}
 use Rattle.http_message.specs.declared.message.Message as read
 use Rattle.policy_tables.specs.View.{address_view}
@@ -63,6 +61,10 @@ Judges wanted w (Err NoMemory) = ⊤
 abbrev pub keeps_holes : ℕ → List HolePlace → Tree → Result Message spec.OpWhy
 keeps_holes n holes w = read_again n w >>= λ d. if same_places (places w n) (Ok holes) then Ok d else Err hole_moved
 
+-- the same again, compared with the message c before
+abbrev pub judged_again : Policy → Option ℕ → List ℕ → ℕ → List HolePlace → Message → Tree → Result (Tree × Message) spec.OpWhy
+judged_again pol k ipx n holes c w = keeps_holes n holes w >>= λ d. unless_fixed (spec.first_fixed pol k ipx c d) (w, d)
+
 abbrev pub Reads : Result Message spec.OpWhy → Result read.Message StepFault → Type 0
 Reads wanted (Ok m) = wanted ≡ Ok (message_view m)
 Reads wanted (Err (Why why)) = wanted ≡ Err (why_view why)
@@ -88,15 +90,23 @@ abbrev pub Numbers : ℕ → StepFault → EntryFault → Type 0
 Numbers i (Why why) result = result ≡ entry.Operation i why
 Numbers i NoMemory result = result ≡ entry.NoMemory
 
--- the operations lead from the block j of c to the block w of d, and with the holes filled from the one to the other
-pub record Commutes (ops : List Op) (j : Tree) (c : Message) (w : Tree) (d : Message) : Type 0 where
-  pub trees : (f : Fills c) → patched_all ops (fill_all f.values j) ≡ Ok (fill_all f.values w)
-  pub filled : (f : Fills c) → filled f.values d ≡ Some (fill_whole f.values d)
-  pub stands : (f : Fills c) → InOrder f.values → StandsFor (fill_all f.values w) (fill_whole f.values d)
-  pub values : (f : Fills c) (h : HoleOf c) → HasValue h f.values (fill_whole f.values d)
+-- the operations, each allowed, make of the block the block w, and of the message that it stands for this one
+pub record Made (g : Ground) (ops : List Op) (w : Tree) : Type 0 where
+  pub message : Message
+  pub outcome : entry_on g ops ≡ Ok (w, message)
+  pub applied : AppliedOn g ops (w, message)
+  pub block : IsBlock w g.holes message
 
--- the block w after the entry, which is j after every refusal
-abbrev pub Applies : {A : Type 0} → Result (Tree × Message) (ℕ × spec.OpWhy) → List Op → Tree → Message → Tree → Result A EntryFault → Type 0
-Applies outcome ops j c w (Ok _) = (d : Message) × (outcome ≡ Ok (w, d)) × Commutes ops j c w d
-Applies outcome ops j c w (Err (entry.Operation i why)) = (outcome ≡ Err (i, why_view why)) × (w ≡ j)
-Applies outcome ops j c w (Err entry.NoMemory) = w ≡ j
+-- operation i, from 1, is the first that isn't allowed, and why is the first reason
+pub record RefusedAt (g : Ground) (ops : List Op) (i : ℕ) (why : spec.OpWhy) : Type 0 where
+  pub outcome : entry_on g ops ≡ Err (i, why)
+  pub first : FirstRefused g ops i why
+
+abbrev pub Refuses : Ground → List Op → EntryFault → Type 0
+Refuses g ops (entry.Operation i why) = RefusedAt g ops i (why_view why)
+Refuses g ops entry.NoMemory = ⊤
+
+-- the block w that the entry makes, or the first operation that isn't allowed with its first reason
+abbrev pub Answers : {A : Type 0} → Ground → List Op → Tree → Result A EntryFault → Type 0
+Answers g ops w (Ok _) = Made g ops w
+Answers g ops w (Err fault) = Refuses g ops fault

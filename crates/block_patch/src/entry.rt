@@ -1,5 +1,5 @@
 // An entry's operations, in order.
-ghost use Rattle.std.specs.Prelude.{◌≡◌, ◌≤◌, ◌<◌, ℕ, List, None, Ok, IfOk, length, map};
+ghost use Rattle.std.specs.Prelude.{◌≡◌, ◌≤◌, ◌<◌, ◌+◌, None, Ok, IfOk, OnOk, OnErr, length, map};
 ghost use Rattle.spec_documents.specs.Hole.{places as places_of};
 ghost use Rattle.spec_messages.specs.Message as spec;
 ghost use Rattle.spec_messages.specs.Block.{IsBlock};
@@ -7,17 +7,19 @@ ghost use Rattle.spec_messages.specs.Fault.{block_fault};
 ghost use Rattle.spec_messages.specs.Outcome.{entry_outcome};
 ghost use Rattle.http_message.specs.Reading.{message_view};
 ghost use Rattle.json_patch6902.specs.View.{op_view};
-ghost use Rattle.block_patch.specs.Answers.{Applies, Runs, Numbers};
+ghost use Rattle.block_patch.specs.Answers.{Answers, Runs, Numbers};
+ghost use Rattle.block_patch.specs.Commutes.{BlockOf, ground, Applied, FillsAlike, KeepsValues, ChangesAllowed};
 
 use crate::fault::{EntryFault, StepFault};
 use crate::step::{Patched, Rules, step};
-use block_forms::{Block, clear_message};
-use enc_index::{Holes, HolesFault, places};
+use block_forms::{Block, BlockRead, BlockReading, clear_message};
+use enc_index::Holes;
 use json_patch6902::OpList;
 use n32_values::{Doc, NoMemory, Text};
 use policy_tables::Policy;
-use spec_messages::blocks::{block_has_one_message, each_index_has_one_place, fault_decides};
+use spec_messages::blocks::{block_has_one_message, fault_decides};
 use spec_messages::commutation::patching_commutes_with_filling;
+use spec_messages::kept::entries_keep;
 use spec_messages::outcomes::{entry_outcome_decides, operation_outcome_decides};
 use std::alloc::Global;
 
@@ -34,16 +36,16 @@ fn numbered(i: usize, fault: StepFault) -> EntryFault
 // What the operations make of a block with the holes, in order.
 fn all_steps(
     alloc: Global,
-    rules: Rules<'_>,
+    rules: &Rules<'_>,
     holes: &Holes,
     start: Patched,
     operations: &OpList,
 ) -> Result<Patched, EntryFault>
     requires few { length operations.now ≤ 64 }
-    requires block { IsBlock start.doc rules.holes (message_view start.message) }
-    requires holes { places_of start.doc rules.holes ≡ Ok holes.now }
-    ensures outcome { Runs (entry_outcome rules.policy.now rules.mapping rules.ipx.now rules.holes start.doc (message_view start.message) (map op_view operations.now)) result }
-    ensures block { IfOk result (λ p. IsBlock p.doc rules.holes (message_view p.message)) }
+    requires block { IsBlock start.doc rules.now.holes (message_view start.message) }
+    requires holes { places_of start.doc rules.now.holes ≡ Ok holes.now }
+    ensures outcome { Runs (entry_outcome rules.now.policy.now rules.now.mapping rules.now.ipx.now rules.now.holes start.doc (message_view start.message) (map op_view operations.now)) result }
+    ensures block { IfOk result (λ p. IsBlock p.doc rules.now.holes (message_view p.message)) }
 {
     operation_outcome_decides();
     let mut current = start;
@@ -56,15 +58,15 @@ fn all_steps(
     Ok(current)
 }
 
-// The places of the holes of a block.
-fn holes_of(alloc: Global, block: &Doc, count: u32) -> Result<Holes, NoMemory>
+// A block that is read once more, for the places of its holes.
+fn reading_of(alloc: Global, block: &Block, count: u32) -> Result<BlockReading, NoMemory>
     requires { block_fault block.now count ≡ None }
-    ensures { IfOk result (λ holes. places_of block.now count ≡ Ok holes) }
+    ensures { IfOk result (λ reading. reading ≡ (block.now, count)) }
 {
-    match places(alloc, block, count) {
-        Ok(holes) => Ok(holes),
-        Err(HolesFault::NoMemory) => Err(NoMemory),
-        Err(_) => unreachable!(),
+    match BlockReading::read(alloc, block.doc().copy(alloc)?, count) {
+        Ok(reading) => Ok(reading),
+        Err(BlockRead::Refused(_)) => unreachable!(),
+        Err(BlockRead::NoMemory) => Err(NoMemory),
     }
 }
 
@@ -86,21 +88,21 @@ fn opened(alloc: Global, block: &Block, count: u32) -> Result<Patched, NoMemory>
 // What the operations make of a copy of the block.
 fn patched(
     alloc: Global,
-    rules: Rules<'_>,
+    rules: &Rules<'_>,
     block: &Block,
     operations: &OpList,
 ) -> Result<Patched, EntryFault>
     requires few { length operations.now ≤ 64 }
-    requires block { block_fault block.now rules.holes ≡ None }
-    ensures outcome { (c : spec.Message) → IsBlock block.now rules.holes c → Runs (entry_outcome rules.policy.now rules.mapping rules.ipx.now rules.holes block.now c (map op_view operations.now)) result }
-    ensures block { IfOk result (λ p. IsBlock p.doc rules.holes (message_view p.message)) }
+    requires block { block_fault block.now rules.now.holes ≡ None }
+    ensures outcome { (c : spec.Message) → IsBlock block.now rules.now.holes c → Runs (entry_outcome rules.now.policy.now rules.now.mapping rules.now.ipx.now rules.now.holes block.now c (map op_view operations.now)) result }
+    ensures block { IfOk result (λ p. IsBlock p.doc rules.now.holes (message_view p.message)) }
 {
     block_has_one_message();
-    let Ok(holes) = holes_of(alloc, block.doc(), rules.holes) else {
+    let Ok(reading) = reading_of(alloc, block, rules.holes) else {
         return Err(EntryFault::NoMemory);
     };
     match opened(alloc, block, rules.holes) {
-        Ok(start) => all_steps(alloc, rules, &holes, start, operations),
+        Ok(start) => all_steps(alloc, rules, reading.holes(), start, operations),
         Err(_) => Err(EntryFault::NoMemory),
     }
 }
@@ -121,22 +123,26 @@ pub fn apply_entry(
     ipx: &Text,
 ) -> Result<(), EntryFault>
     requires { length operations.now ≤ 64 }
-    ensures { (n : ℕ) (c : spec.Message) → IsBlock block.old n c → Applies (entry_outcome policy.now mapping ipx.now n block.old c (map op_view operations.now)) (map op_view operations.now) block.old c block.new result }
+    ensures answer { (b : BlockOf block.old) → Answers (ground policy.now mapping ipx.now block.old b) (map op_view operations.now) block.new result }
+    ensures as_before { OnErr result (block.new ≡ block.old) }
+    ensures filled { OnOk result ((b : BlockOf block.old) → Applied (ground policy.now mapping ipx.now block.old b) (map op_view operations.now) block.new FillsAlike) }
+    ensures values { OnOk result ((b : BlockOf block.old) → Applied (ground policy.now mapping ipx.now block.old b) (map op_view operations.now) block.new KeepsValues) }
+    ensures changes { OnOk result ((b : BlockOf block.old) → Applied (ground policy.now mapping ipx.now block.old b) (map op_view operations.now) block.new ChangesAllowed) }
 {
     fault_decides();
     block_has_one_message();
-    each_index_has_one_place();
     entry_outcome_decides();
     patching_commutes_with_filling();
+    entries_keep();
     let rules = Rules {
         policy,
         mapping,
         ipx,
         holes: block.holes(),
     };
-    match patched(alloc, rules, block, operations) {
-        Ok(Patched { doc, .. }) => {
-            *block = Block::of_doc(doc, rules.holes);
+    match patched(alloc, &rules, block, operations) {
+        Ok(made) => {
+            *block = made.into_block(rules.holes);
             Ok(())
         }
         Err(fault) => Err(fault),

@@ -86,15 +86,33 @@ fn overwrites_hole(alloc: Global, block: &Doc, path: &Pointer) -> Result<bool, N
     holds_hole(alloc, block, path)
 }
 
+fn removal(alloc: Global, from: &Pointer) -> Result<Op, NoMemory>
+    ensures { IfOk result (λ op. op_view op ≡ patch.remove from.now) }
+{
+    Ok(Op::Remove {
+        path: from.copy(alloc)?,
+    })
+}
+
+// What an operation makes of a copy of the block, where it makes something.
+fn made(alloc: Global, block: &Doc, op: &Op) -> Result<Option<Doc>, NoMemory>
+    ensures { IfOk result (λ doc. doc ≡ result_ok (patch.patched block.now (op_view op.now))) }
+{
+    match apply(alloc, block.copy(alloc)?, op) {
+        Ok(doc) => Ok(Some(doc)),
+        Err(ApplyFault::Refused { .. }) => Ok(None),
+        Err(ApplyFault::NoMemory) => Err(NoMemory),
+    }
+}
+
 // The block without the node at a place, where one is there.
 fn without(alloc: Global, block: &Doc, from: &Pointer) -> Result<Option<Doc>, NoMemory>
     ensures { IfOk result (λ doc. doc ≡ result_ok (patch.removed from.now block.now)) }
 {
-    let path = from.copy(alloc)?;
-    match apply(alloc, block.copy(alloc)?, &Op::Remove { path }) {
-        Ok(doc) => Ok(Some(doc)),
-        Err(ApplyFault::Refused { .. }) => Ok(None),
-        Err(ApplyFault::NoMemory) => Err(NoMemory),
+    let _known = block.node();
+    match removal(alloc, from) {
+        Ok(op) => made(alloc, block, &op),
+        Err(refused) => Err(refused),
     }
 }
 

@@ -24,7 +24,7 @@ fn is_too_large(doc: &Doc) -> bool
 }
 
 fn is_same_member(left: Option<&Node>, right: Option<&Node>) -> bool
-    ensures { result ≡ spec.same_member (option_map (λ n. tree_of n.now) left) (option_map (λ n. tree_of n.now) right) }
+    ensures { result ≡ spec.same_member (option_map (λ n. tree_of n.now) left.entry) (option_map (λ n. tree_of n.now) right.entry) }
 {
     match (left, right) {
         (Some(left), Some(right)) => is_same_doc(left, right),

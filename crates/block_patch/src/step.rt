@@ -1,18 +1,18 @@
 // One operation of an entry: what it makes of a block and of the message that the block stands for.
-ghost use Rattle.std.specs.Prelude.{◌≡◌, Ok, slice_get};
+ghost use Rattle.std.specs.Prelude.{◌≡◌, None, Ok, slice_get};
 ghost use Rattle.spec_documents.specs.Hole.{places as places_of};
-ghost use Rattle.spec_documents.specs.Place.{◌>>=◌};
 ghost use Rattle.spec_messages.specs.Entry as entries;
+ghost use Rattle.spec_messages.specs.Fault.{block_fault};
 ghost use Rattle.spec_messages.specs.Outcome as spec;
 ghost use Rattle.http_message.specs.Reading.{message_view};
 ghost use Rattle.enc_index.specs.Places.{place_view};
 ghost use Rattle.json_patch6902.specs.View.{op_view};
-ghost use Rattle.block_patch.specs.Answers.{Reads, Gives, keeps_holes};
+ghost use Rattle.block_patch.specs.Answers.{Reads, Gives, keeps_holes, judged_again};
 ghost use Rattle.block_patch.specs.Places.{same_place_option};
 
 use crate::fault::{OpWhy, StepFault};
 use crate::outcome::outcome;
-use block_forms::{BlockRead, BlockReading};
+use block_forms::{Block, BlockRead, BlockReading};
 use enc_index::{Holes, Place};
 use http_message::Message;
 use json_patch6902::Op;
@@ -37,6 +37,18 @@ pub(crate) struct Rules<'a> {
 pub(crate) struct Patched {
     pub(crate) doc: Doc,
     pub(crate) message: Message,
+}
+
+impl Patched {
+    // Its block, which is moved.
+    pub(crate) fn into_block(self, holes: u32) -> Block
+        requires { block_fault self.doc holes ≡ None }
+        ensures value { result ≡ self.doc }
+        ensures holes { block_fault result holes ≡ None }
+    {
+        let Patched { doc, .. } = self;
+        Block::of_doc(doc, holes)
+    }
 }
 
 fn is_same_pointer(one: &Pointer, other: &Pointer) -> bool
@@ -118,14 +130,21 @@ fn read_again(alloc: Global, doc: &Doc, count: u32, holes: &Holes) -> Result<Mes
 
 fn compared(
     alloc: Global,
-    rules: Rules<'_>,
+    rules: &Rules<'_>,
     before: &Message,
     doc: Doc,
     message: Message,
 ) -> Result<Patched, StepFault>
-    ensures { Gives (spec.unless_fixed (entries.first_fixed rules.policy.now rules.mapping rules.ipx.now (message_view before.now) (message_view message)) (doc, message_view message)) result }
+    ensures { Gives (spec.unless_fixed (entries.first_fixed rules.now.policy.now rules.now.mapping rules.now.ipx.now (message_view before.now) (message_view message)) (doc, message_view message)) result }
 {
-    match first_fixed(alloc, rules.policy, rules.mapping, before, &message, rules.ipx) {
+    match first_fixed(
+        alloc,
+        rules.policy,
+        rules.mapping,
+        before,
+        &message,
+        rules.ipx,
+    ) {
         Ok(None) => Ok(Patched { doc, message }),
         Ok(Some(address)) => Err(StepFault::Why(OpWhy::NotModifiable(address))),
         Err(_) => Err(StepFault::NoMemory),
@@ -134,12 +153,12 @@ fn compared(
 
 fn judged(
     alloc: Global,
-    rules: Rules<'_>,
+    rules: &Rules<'_>,
     holes: &Holes,
     before: &Message,
     doc: Doc,
 ) -> Result<Patched, StepFault>
-    ensures { Gives (keeps_holes rules.holes holes.now doc >>= λ d. spec.unless_fixed (entries.first_fixed rules.policy.now rules.mapping rules.ipx.now (message_view before.now) d) (doc, d)) result }
+    ensures { Gives (judged_again rules.now.policy.now rules.now.mapping rules.now.ipx.now rules.now.holes holes.now (message_view before.now) doc) result }
 {
     match read_again(alloc, &doc, rules.holes, holes) {
         Ok(message) => compared(alloc, rules, before, doc, message),
@@ -150,13 +169,13 @@ fn judged(
 // What an operation makes of a block with the holes, or the first reason against it.
 pub(crate) fn step(
     alloc: Global,
-    rules: Rules<'_>,
+    rules: &Rules<'_>,
     holes: &Holes,
     current: &Patched,
     op: &Op,
 ) -> Result<Patched, StepFault>
-    requires { places_of current.now.doc rules.holes ≡ Ok holes.now }
-    ensures { Gives (spec.operation_outcome rules.policy.now rules.mapping rules.ipx.now rules.holes current.now.doc (message_view current.now.message) (op_view op.now)) result }
+    requires { places_of current.now.doc rules.now.holes ≡ Ok holes.now }
+    ensures { Gives (spec.operation_outcome rules.now.policy.now rules.now.mapping rules.now.ipx.now rules.now.holes current.now.doc (message_view current.now.message) (op_view op.now)) result }
 {
     match outcome(alloc, &current.doc, op) {
         Ok(doc) => judged(alloc, rules, holes, &current.message, doc),

@@ -9,6 +9,7 @@ use std::io;
 use std::process::ExitCode;
 
 mod args;
+mod block_patches;
 mod blocks;
 mod calls;
 mod changes;

@@ -105,7 +105,8 @@ fn one_op(given: &Given) -> Option<&Op> {
     if ops.len() == 1 { ops.get(0) } else { None }
 }
 
-fn cause_word(why: PatchFault) -> &'static str {
+/// The name of a cause.
+pub fn cause_word(why: PatchFault) -> &'static str {
     match why {
         PatchFault::NoPlace => "NO_PLACE",
         PatchFault::BadIndex => "BAD_INDEX",

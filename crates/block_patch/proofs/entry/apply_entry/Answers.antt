@@ -1,47 +1,72 @@
-use Rattle.std.proofs.Common.{◌≡◌, Ok, List, [], ◌∷◌, refl, sym, ap, subst, map}
+use Rattle.std.proofs.Common.{◌≡◌, Ok, sym, subst, map}
 use Rattle.http_message.specs.Reading.{message_view}
 use Rattle.json_patch6902.specs.View.{op_view}
+use Rattle.spec_messages.specs.Split.{fill_whole}
 use Rattle.spec_messages.specs.Block.{IsBlock}
-use Rattle.spec_messages.specs.Outcome.{Ground, entry_outcome}
-use Rattle.spec_messages.specs.Steps.{ChainStep}
-use Rattle.block_patch.proofs.Entries.{one_count, one_entry}
+use Rattle.spec_messages.specs.Outcome.{entry_outcome}
+use Rattle.spec_messages.specs.Steps.{EntryStep, ChainStep, EntryKept}
+use Rattle.spec_messages.proofs.FilledStands.{fill_parts_of}
+use Rattle.block_patch.specs.Answers.{Made}
+use Rattle.block_patch.specs.Commutes.{BlockOf, ground, entry_step}
+use Rattle.block_patch.proofs.Entries.{told_of, block_of, one_entry, one_chain, refused}
 use Rattle.block_patch.proofs.entry.apply_entry.Goals as goal
 
-pub of_doc-requires : goal.of_doc-requires
-of_doc-requires c = c.fault_decides.ensures.none c.in-Ok.doc c.holes.result (message_view c.in-Ok.message) c.in-Ok.ensures.block
+pub into_block-requires : goal.into_block-requires
+into_block-requires c = c.fault_decides.ensures.none c.in-Ok.made.doc c.holes.result (message_view c.in-Ok.made.message) c.in-Ok.ensures.block
 
 pub returns-in-Ok : goal.returns-in-Ok
-returns-in-Ok c = λ n m b.
+returns-in-Ok c =
+    let pol = c.args.policy.now in
+    let k = c.args.mapping in
+    let ipx = c.args.ipx.now in
     let j = c.args.block.now in
+    let n = c.holes.result in
     let ops = map op_view c.args.operations.now in
-    let e = c.fault_decides.ensures.block j c.holes.result (c.fault_decides.ensures.ordered j n m b) c.holes.ensures in
-    let same = one_count j n c.holes.result m e.0 b e.1 in
-    let d = message_view c.in-Ok.message in
-    let w = c.of_doc.result in
-    let run = c.in-Ok.ensures.outcome m (subst (λ k. IsBlock j k m) same b) in
-    let outcome : entry_outcome c.args.policy.now c.args.mapping c.args.ipx.now n j m ops ≡ Ok (w, d) =
-    subst (λ t. entry_outcome c.args.policy.now c.args.mapping c.args.ipx.now n j m ops ≡ Ok (t, d)) (sym c.of_doc.ensures.value)
-    (subst (λ k. entry_outcome c.args.policy.now c.args.mapping c.args.ipx.now k j m ops ≡ Ok (c.in-Ok.doc, d)) (sym same) run) in
-    let g : Ground = record { policy = c.args.policy.now; mapping = c.args.mapping; ipx = c.args.ipx.now; holes = n; tree = j; clear = m; block = b } in
-    let s : ChainStep = record {
-      policy = c.args.policy.now;
-      mapping = c.args.mapping;
-      holes = n;
-      entries = (c.args.ipx.now, ops) ∷ [];
-      before = j;
-      clear = m;
-      after = w;
-      patched = d;
-      block = b;
-      applied = (w, d, c.entry_outcome_decides.ensures.made g ops (w, d) outcome, (refl, refl));
+    let w = c.into_block.result in
+    let d = message_view c.in-Ok.made.message in
+    let made : (b : BlockOf j) → Made (ground pol k ipx j b) ops w = λ b.
+    let g = ground pol k ipx j b in
+    let told = λ (m : _) (is : IsBlock j n m). subst (λ t. entry_outcome pol k ipx n j m ops ≡ Ok (t, d)) (sym c.into_block.ensures.value) (c.in-Ok.ensures.outcome m is) in
+    let outcome = told_of pol k ipx ops j n b (Ok (w, d)) c.holes.ensures told in
+    record {
+      message = d;
+      outcome = outcome;
+      applied = c.entry_outcome_decides.ensures.made g ops (w, d) outcome;
+      block = block_of j n b w d c.holes.ensures (subst (λ t. IsBlock t n d) (sym c.into_block.ensures.value) c.in-Ok.ensures.block);
     } in
-    let law = c.patching_commutes_with_filling.ensures in (
-      d,
-      outcome,
-      record {
-        trees = λ f. one_entry ops _ _ (law.tree s f);
-        filled = λ f. law.filled s f;
-        stands = λ f o. law.stands s f o;
-        values = λ f h. law.value_after s f h;
-      },
-    )
+    let step : (b : BlockOf j) → EntryStep = λ b. entry_step (ground pol k ipx j b) ops w d (made b).applied in
+    let chain : (b : BlockOf j) → ChainStep = λ b. one_chain (step b) in
+    let law = c.patching_commutes_with_filling.ensures in
+    record {
+      answer = made;
+      as_before = tt;
+      filled = λ b. record {
+        message = d;
+        applied = (made b).applied;
+        holds = record {
+          tree = λ f. one_entry ops _ _ (law.tree (chain b) f);
+          before = λ f. law.tree_before (chain b) f;
+          after = λ f. law.tree_after (chain b) f;
+          message = λ f. law.filled (chain b) f;
+          stands = λ f o. law.stands (chain b) f o;
+        };
+      };
+      values = λ b. record {
+        message = d;
+        applied = (made b).applied;
+        holds = record { before = λ f h. law.value_before (chain b) f h; after = λ f h. law.value_after (chain b) f h };
+      };
+      changes = λ b. record {
+        message = d;
+        applied = (made b).applied;
+        holds = record {
+          modifiable = c.entries_keep.ensures.modifiable (step b);
+          kept = λ f o. subst (λ m. EntryKept (step b) m (fill_whole f.values d)) (fill_parts_of b.clear f.values f.full f.is).1 (c.entries_keep.ensures.entry (step b) f.values o);
+        };
+      };
+    }
+
+pub returns-in-Err-clause-answer : goal.returns-in-Err-clause-answer
+returns-in-Err-clause-answer c = λ b.
+    refused c.args.policy.now c.args.mapping c.args.ipx.now (map op_view c.args.operations.now) c.args.block.now c.holes.result b c.in-Err.fault c.holes.ensures c.in-Err.ensures.outcome
+    (λ g i why e. c.entry_outcome_decides.ensures.refused g (map op_view c.args.operations.now) i why e)

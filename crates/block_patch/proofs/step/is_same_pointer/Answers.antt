@@ -1,4 +1,4 @@
-use Rattle.std.proofs.Common.{ap, sym, ◌∙◌, arith}
+use Rattle.std.proofs.Common.{◌∙◌, arith}
 use Rattle.block_patch.proofs.PlaceLists.{pointer_same, pointer_not}
 use Rattle.block_patch.proofs.step.is_same_pointer.Goals as goal
 

@@ -10,7 +10,7 @@ use Rattle.block_patch.proofs.step.step.Goals as goal
 
 pub returns-in-Ok : goal.returns-in-Ok
 returns-in-Ok c =
-    let r = c.args.rules in
+    let r = c.args.rules.now in
     let j = c.args.current.now.doc in
     let m = message_view c.args.current.now.message in
     subst (λ x. Gives x c.judged.result)
@@ -19,7 +19,7 @@ returns-in-Ok c =
 
 pub returns-in-Err : goal.returns-in-Err
 returns-in-Err c =
-    let r = c.args.rules in
+    let r = c.args.rules.now in
     let j = c.args.current.now.doc in
     let m = message_view c.args.current.now.message in
     makes_not (op_result j (op_view c.args.op.now)) c.in-Err.fault (λ w. read_again r.holes w >>= λ d. compared r.policy.now r.mapping r.ipx.now r.holes j m w d) c.in-Err.ensures
