@@ -1,15 +1,16 @@
--- What sending a request comes to: the answer, and what is held after it.
+-- What sending a message comes to: the answer, and what is held after it.
 use Rattle.std.specs.Prelude.{◌≡◌, ℕ, List, Option, Result, Ok, Err}
 use Rattle.spec_documents.specs.Tree.{Tree}
 use Rattle.spec_documents.specs.Gives.{Tells}
-use Rattle.spec_messages.specs.Message.{Message, of_request}
+use Rattle.spec_messages.specs.Message.{Message}
 use Rattle.spec_records.specs.Records.{Record}
 use Rattle.context_store.specs.Stores.{Stored}
 use Rattle.context_store.specs.Changes.{Nothing, CallBy, with_room, PutBy}
 use Rattle.spec_messages.specs.Limits.{many_records}
 use Rattle.spec_exchange.specs.SendingRefusals.{Refusal, Beyond}
 use Rattle.spec_exchange.specs.Outside.{Cause}
-use Rattle.spec_exchange.specs.Calls.{Sealed, Asks, sent_record, protected, sends}
+use Rattle.spec_exchange.specs.Calls.{Outgoing, Asks, Sealed, kind_of_outgoing, message_id, sent_record, protected, sends}
+use Rattle.sending_sepp.specs.Outgoings.{outgoing_view}
 use Rattle.sending_sepp.specs.Sending.{told, told_cause}
 use Rattle.sending_sepp.specs.declared.checks.Checked.{Checked}
 use Rattle.sending_sepp.specs.declared.fault.CheckFault.{CheckFault}
@@ -23,29 +24,33 @@ abbrev pub Answers : Result Tree ProtectFault → Result Sealed (Cause Refusal) 
 Answers (Ok t) wanted = (s : Sealed) × (wanted ≡ Ok s) × (t ≡ s.document)
 Answers (Err e) wanted = Tells (told_cause e) wanted
 
--- the request is sent over the records of the store, once it is read, under some choice of the keeper
+-- the message is sent over the records of the store, once it is read, under some choice of the keeper
+abbrev pub ProtectsAs : Outgoing → (held now : Option (List (List ℕ))) (old new : Stored) (node : List ℕ) (id : ℕ) → Message → Result Tree ProtectFault → Type 0
+ProtectsAs o held now old new node id m (Err protecting.NoMemory) = Nothing held now old new
+ProtectsAs o held now old new node id m result = CallBy (λ f records. sends f records node id o m) (Answers result) held now old new
+
+-- as a request
 abbrev pub Protects : (held now : Option (List (List ℕ))) (old new : Stored) (node : List ℕ) (id : ℕ) → Message → Result Tree ProtectFault → Type 0
-Protects held now old new node id m (Err protecting.NoMemory) = Nothing held now old new
-Protects held now old new node id m result = CallBy (λ f records. sends f records node id Asks m) (Answers result) held now old new
+Protects = ProtectsAs Asks
 
 -- ---- its parts
 
--- what is sealed. A request's id is its sequence number
+-- what is sealed
 abbrev pub sealed_view : (node : List ℕ) (id : ℕ) → Checked → Sealed
 sealed_view node id c = record {
   document = c.document;
   node = node;
   id = id;
-  kind = of_request;
+  kind = kind_of_outgoing (outgoing_view c.outgoing);
   seq = c.seq;
-  message = c.seq;
+  message = message_id (outgoing_view c.outgoing) c.seq;
   mapping = c.mapping;
 }
 
--- the sealed request or the first refusal, but for the limit on records
-abbrev pub ChecksOut : List Record → (node : List ℕ) (id : ℕ) → Message → Result Checked CheckFault → Type 0
-ChecksOut records node id m (Ok c) = protected records node id Asks m ≡ with_room (Beyond many_records) records (sealed_view node id c)
-ChecksOut records node id m (Err e) = Tells (told e) (protected records node id Asks m)
+-- the sealed message or the first refusal, but for the limit on records
+abbrev pub ChecksOut : List Record → (node : List ℕ) (id : ℕ) → Outgoing → Message → Result Checked CheckFault → Type 0
+ChecksOut records node id o m (Ok c) = protected records node id o m ≡ with_room (Beyond many_records) records (sealed_view node id c)
+ChecksOut records node id o m (Err e) = Tells (told e) (protected records node id o m)
 
 -- the record of what is sealed is put over the records of a fresh store
 abbrev pub Records : (held now : Option (List (List ℕ))) (old new : Stored) → Sealed → Result Tree ProtectFault → Type 0

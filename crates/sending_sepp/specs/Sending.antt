@@ -16,6 +16,8 @@ use Rattle.sending_sepp.specs.declared.fault.ProtectFault.TheVariants as protect
 abbrev pub refusal_view : SendFault → spec.Refusal
 refusal_view faults.ContextNotFound = spec.ContextNotFound
 refusal_view faults.NoKeys = spec.NoKeys
+refusal_view faults.NoRequest = spec.NoRequest
+refusal_view faults.Answered = spec.Answered
 refusal_view faults.SeqSpent = spec.SeqSpent
 refusal_view (faults.Limit name) = spec.Beyond (limit_view name)
 

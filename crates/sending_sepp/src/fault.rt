@@ -15,6 +15,10 @@ pub enum SendFault {
     ContextNotFound,
     /// The context has no keys.
     NoKeys,
+    /// No request of that message id was delivered. Of a response alone.
+    NoRequest,
+    /// The request has its response. Of a response alone.
+    Answered,
     /// No sequence number is left.
     SeqSpent,
     /// The first limit that is passed: of `Headers`, `Payload`, `Values`, `Block` and `Records`.
@@ -51,6 +55,8 @@ impl SendFault {
         match self {
             SendFault::ContextNotFound => 10,
             SendFault::NoKeys => 11,
+            SendFault::NoRequest => 15,
+            SendFault::Answered => 16,
             SendFault::SeqSpent => 12,
             SendFault::Limit(_) => 7,
         }
@@ -63,6 +69,8 @@ impl SendFault {
         match self {
             SendFault::ContextNotFound => "CONTEXT_NOT_FOUND",
             SendFault::NoKeys => "NO_KEYS",
+            SendFault::NoRequest => "NO_REQUEST",
+            SendFault::Answered => "ANSWERED",
             SendFault::SeqSpent => "SEQ_SPENT",
             SendFault::Limit(_) => "LIMIT",
         }

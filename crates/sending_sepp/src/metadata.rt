@@ -28,8 +28,8 @@ fn authorized(alloc: Global, own_ipx: &TextList) -> Result<Text, NoMemory>
     }
 }
 
-/// The metadata of a request: the context's id at the peer, the sequence number as the message's id, and the
-/// node's own intermediary, or `null`.
+/// The metadata of a message: the context's id at the peer, the message's id, and the node's own intermediary,
+/// or `null`.
 pub(crate) fn metadata_for(
     alloc: Global,
     context: &Context,

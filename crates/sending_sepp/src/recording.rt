@@ -1,4 +1,4 @@
-// The record of a request, which is put before its document is handed out.
+// The record of a message, which is put before its document is handed out.
 ghost use Rattle.std.specs.Prelude.{◌≡◌, ◌<◌, ◌≤◌, length, true, IsTrue, IsErrOf};
 ghost use Rattle.spec_documents.specs.Text.{is_node_name};
 ghost use Rattle.spec_records.specs.Records.{record_limit};
@@ -11,12 +11,11 @@ use crate::fault::{ProtectFault, SendFault};
 use block_forms::LimitName;
 use context_records::Record;
 use context_store::{AddFault, Store};
-use http_message::Kind;
 use n32_outside::Keeper;
 use n32_values::{Doc, Hex64, Text};
 use std::alloc::Global;
 
-/// Puts the record of a sealed request, and hands out its document.
+/// Puts the record of a sealed message, and hands out its document.
 pub(crate) fn record_sent<K: Keeper>(
     alloc: Global,
     store: &mut Store,
@@ -37,11 +36,9 @@ pub(crate) fn record_sent<K: Keeper>(
     let item = Record::Sent {
         node: node.copy(alloc)?,
         id,
-        kind: Kind::Request,
+        kind: checked.outgoing.kind(),
         seq: checked.seq,
-        message: Hex64 {
-            value: u64::from(checked.seq),
-        },
+        message: checked.outgoing.message_id(checked.seq),
         mapping: checked.mapping,
     };
     match store.add(alloc, keeper, item) {

@@ -12,7 +12,7 @@ use Rattle.sending_sepp.proofs.recording.record_sent.Goals as goal
 pub returns-in-Ok-clause-records : goal.returns-in-Ok-clause-records
 returns-in-Ok-clause-records g c =
     let s = sealed_view c.args.node.now c.args.id.value c.args.checked in
-    let a = rw (c.in_ok-copy.ensures, c.from.ensures) at c.in-Ok.ensures in
+    let a = rw (c.in_ok-copy.ensures, c.kind.ensures, c.message_id.ensures) at c.in-Ok.ensures in
     recorded (Beyond many_records) sent_record (Answers (Ok c.args.checked.document)) (g.K.Keeper.held c.args.keeper.now) (g.K.Keeper.held c.add.new.keeper) c.args.store.now c.add.new.self s (s, refl, refl) a.room a.put a.read_back a.added a.fresh
 
 pub returns-in-Err-Limit-clause-records : goal.returns-in-Err-Limit-clause-records
@@ -24,5 +24,5 @@ returns-in-Err-Limit-clause-records g c =
 pub returns-in-Err-Keeper-clause-records : goal.returns-in-Err-Keeper-clause-records
 returns-in-Err-Keeper-clause-records g c =
     let s = sealed_view c.args.node.now c.args.id.value c.args.checked in
-    let a = rw (c.in_ok-copy.ensures, c.from.ensures) at c.in-Err-Keeper.ensures in
+    let a = rw (c.in_ok-copy.ensures, c.kind.ensures, c.message_id.ensures) at c.in-Err-Keeper.ensures in
     untold (Beyond many_records) sent_record (Answers (Err Keeper)) (g.K.Keeper.held c.args.keeper.now) (g.K.Keeper.held c.add.new.keeper) c.args.store.now c.add.new.self s refl (a.keeper cc) (a.stale cc) (a.perhaps cc) (a.perhaps_read cc)
