@@ -1,5 +1,6 @@
 -- What the program's values are, in the words of the definitions.
 use Rattle.std.specs.Prelude.{ℕ, List, [], ◌∷◌, ◌++◌, Option, Some, None}
+use Rattle.std.specs.Option.{option_copied}
 use Rattle.jws_flat.specs.View.{member_name}
 use Rattle.block_patch.specs.Answers as patching
 use Rattle.spec_exchange.specs.EntryChecks.{Terms}
@@ -19,7 +20,7 @@ in_front None texts = texts
 in_front (Some text) texts = text ∷ texts
 
 abbrev pub route_view : Route → List (List ℕ)
-route_view r = in_front r.authorized r.own.now
+route_view r = in_front (option_copied r.authorized) r.own.now
 
 -- the terms of entries on a block with so many holes
 abbrev pub terms_view : EntryTerms → (holes : ℕ) → Terms

@@ -2,9 +2,13 @@
 //! the order of the checks is this project's own).
 #![tactic(auto)]
 
+mod bound;
+mod changes;
+mod detail;
 mod entries;
 mod refused;
 mod route;
+mod step;
 mod terms;
 
 pub use entries::apply_entries;

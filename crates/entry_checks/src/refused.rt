@@ -1,12 +1,10 @@
 // Why the entries of a document aren't applied.
-ghost use Rattle.std.specs.Prelude.{◌≡◌, IfOk};
+ghost use Rattle.std.specs.Prelude.{◌≡◌};
 ghost use Rattle.spec_exchange.specs.EntryRefusals.{entry_telling};
 ghost use Rattle.entry_checks.specs.Views.{why_view};
 
 use block_patch::OpWhy;
 use jws_flat::EntryMember;
-use n32_values::{NoMemory, Text};
-use std::alloc::Global;
 
 /// Why an entry isn't applied: the first that holds, in this order.
 #[derive(Drop)]
@@ -71,15 +69,11 @@ impl RefusedEntry {
             EntryWhy::Operation(_, _) => "MOD_OPERATION",
         }
     }
+}
 
-    /// What the refusal names besides: the entry's number, and with it the member, or the operation's number
-    /// and its reason.
-    ///
-    /// # Errors
-    /// `NoMemory` where memory was refused.
-    pub fn detail(&self, _alloc: Global) -> Result<Option<Text>, NoMemory>
-        ensures { IfOk result (λ d. d ≡ (entry_telling self.now.entry (why_view self.now.why)).detail) }
-    {
-        Err(NoMemory)
-    }
+// Why one entry makes nothing.
+#[derive(Drop)]
+pub(crate) enum StepFault {
+    Refused(EntryWhy),
+    NoMemory,
 }
