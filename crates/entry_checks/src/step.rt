@@ -19,6 +19,7 @@ use std::alloc::Global;
 
 /// Checks an entry on the rest of the route and makes its changes on a block. It gives what is left of the
 /// route.
+#[tactic(auto, unfolding(spec_documents::specs::Chain::chains))]
 pub(crate) fn step<'a, V: Verifier>(
     alloc: Global,
     verifier: &mut V,
