@@ -1,6 +1,5 @@
 -- The rest of a route behind the place of an identity.
-use Rattle.std.proofs.Common.{◌≡◌, ℕ, zero, suc, ◌+◌, ◌<◌, List, [], ◌∷◌, ◌++◌, length, Bool, true, false, Option, Some, None, refl, sym, ap, ◌∙◌, drop, slice_get, bytes_eq, if◌then◌else◌, arith}
-use Rattle.std.specs.Prelude.{is_some}
+use Rattle.std.proofs.Common.{◌≡◌, ℕ, zero, suc, ◌+◌, List, [], ◌∷◌, length, Bool, true, false, Option, Some, None, refl, sym, ap, ◌∙◌, drop, slice_get, bytes_eq, if◌then◌else◌}
 use Rattle.n32_values.proofs.Trees.{drop_at}
 use Rattle.spec_exchange.specs.Route.{is_subsequence}
 use Rattle.entry_checks.specs.Steps.{behind}

@@ -1,5 +1,5 @@
 -- What checking and applying the entries of a document answers (this project's own).
-use Rattle.std.specs.Prelude.{◌≡◌, ⊤, ⊥, ℕ, List, Result, Ok, Err}
+use Rattle.std.specs.Prelude.{◌≡◌, ℕ, List, Result, Ok, Err}
 use Rattle.spec_documents.specs.Gives.{Tells}
 use Rattle.spec_documents.specs.Tree.{Tree}
 use Rattle.spec_messages.specs.Message.{Message}
@@ -7,7 +7,7 @@ use Rattle.spec_messages.specs.Block.{IsBlock}
 use Rattle.spec_exchange.specs.EntryChecks.{Progress}
 use Rattle.spec_exchange.specs.AcceptRefusals.{Refusal}
 use Rattle.entry_checks.specs.declared.refused.EntriesFault.{EntriesFault}
-use Rattle.entry_checks.specs.declared.refused.EntriesFault.TheVariants.{Refused, NoMemory}
+use Rattle.entry_checks.specs.declared.refused.EntriesFault.TheVariants.{Refused}
 use Rattle.entry_checks.specs.declared.refused.RefusedEntry.{RefusedEntry}
 use Rattle.entry_checks.specs.declared.refused.EntryWhy.TheVariants.{Verifier}
 use Rattle.entry_checks.specs.Views.{told}

@@ -1,5 +1,5 @@
 -- What the program's values are, in the words of the definitions.
-use Rattle.std.specs.Prelude.{ℕ, List, [], ◌∷◌, ◌++◌, Option, Some, None}
+use Rattle.std.specs.Prelude.{ℕ, List, ◌∷◌, Option, Some, None}
 use Rattle.std.specs.Option.{option_copied}
 use Rattle.jws_flat.specs.View.{member_name}
 use Rattle.block_patch.specs.Answers as patching
