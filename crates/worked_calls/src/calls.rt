@@ -2,8 +2,8 @@
 use crate::args::Args;
 use crate::given::Given;
 use crate::{
-    block_patches, blocks, changes, ciphers, differences, entries, holes, jwes, messages, patches,
-    pointers, policies, records, reports, sealing, texts, values, wires,
+    block_patches, blocks, changes, ciphers, differences, entries, entry_chains, holes, jwes,
+    messages, patches, pointers, policies, records, reports, sealing, texts, values, wires,
 };
 use n32_values::Node;
 use std::alloc::Global;
@@ -122,6 +122,7 @@ fn entry_call(alloc: Global, name: &str, args: Args<'_>, given: &Given) -> Optio
         "sign_entry" => entries::sign_entry_call(alloc, args, given),
         "verify_entry" => entries::verify_entry_call(alloc, args, given),
         "pass_on" => entries::pass_on_call(alloc, args, given),
+        "apply_entries" => entry_chains::apply_entries_call(alloc, args, given),
         "apply_entry" => block_patches::apply_entry_call(alloc, args, given),
         _ => report_call(alloc, name, args, given),
     }

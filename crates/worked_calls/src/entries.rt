@@ -59,8 +59,8 @@ fn fails_in(alloc: Global, args: Args<'_>) -> Option<CallList> {
     }
 }
 
-// The signer and verifier of a row.
-fn hs256_in(alloc: Global, args: Args<'_>) -> Option<FailAt<Hs256>> {
+/// The signer and verifier of a row.
+pub fn hs256_in(alloc: Global, args: Args<'_>) -> Option<FailAt<Hs256>> {
     let root = args.text("root")?.as_bytes();
     match (Hs256::new(alloc, root), fails_in(alloc, args)) {
         (Ok(inner), Some(fails)) => Some(FailAt::new(inner, fails)),

@@ -16,6 +16,7 @@ mod changes;
 mod ciphers;
 mod differences;
 mod entries;
+mod entry_chains;
 mod given;
 mod holes;
 mod jwes;

@@ -1,0 +1,4 @@
+pub mod Routes
+pub mod Operations
+pub mod Sayings
+pub mod Progressing

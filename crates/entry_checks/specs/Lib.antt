@@ -1,0 +1,4 @@
+pub mod Views
+pub mod Verifiers
+pub mod Answers
+pub mod Steps
