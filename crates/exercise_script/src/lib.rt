@@ -7,6 +7,7 @@ mod printing;
 mod script;
 mod summary;
 mod turn;
+mod turns;
 mod values;
 
 pub use line::{Line, Sepp};

@@ -3,6 +3,7 @@
 ghost use Rattle.std.specs.Prelude.{◌≡◌, [], ◌∷◌, IfOk, codes};
 ghost use Rattle.spec_documents.specs.Tree.{object, words};
 ghost use Rattle.n32_values.specs.View.{tree_of};
+ghost use Rattle.spec_exercise.specs.Script.{Sender, Receiver};
 ghost use Rattle.spec_exercise.specs.Documents as spec;
 ghost use Rattle.exercise_script.specs.View.{sepp_view};
 
@@ -120,18 +121,32 @@ fn key(alloc: Global, key: &str, salt: &str) -> Result<Node, NoMemory>
     Ok(Node::Members(map))
 }
 
-// The key and salt for requests, and those for responses.
-fn key_pair(
-    alloc: Global,
-    request: (&str, &str),
-    response: (&str, &str),
-) -> Result<Node, NoMemory>
-    ensures { IfOk result (λ n. tree_of n ≡ spec.record_of ((codes "request", spec.key_tree request.0.now request.1.now) ∷ (codes "response", spec.key_tree response.0.now response.1.now) ∷ [])) }
+// The keys for requests and for responses.
+fn key_pair(alloc: Global, request: Node, response: Node) -> Result<Node, NoMemory>
+    ensures { IfOk result (λ n. tree_of n ≡ spec.record_of ((codes "request", tree_of request) ∷ (codes "response", tree_of response) ∷ [])) }
 {
     let mut map = NodeMap::new(alloc);
-    put(alloc, &mut map, "response", key(alloc, response.0, response.1)?)?;
-    put(alloc, &mut map, "request", key(alloc, request.0, request.1)?)?;
+    put(alloc, &mut map, "response", response)?;
+    put(alloc, &mut map, "request", request)?;
     Ok(Node::Members(map))
+}
+
+// The keys that the sender seals with.
+fn sender_keys(alloc: Global) -> Result<Node, NoMemory>
+    ensures { IfOk result (λ n. tree_of n ≡ spec.sealing_keys Sender) }
+{
+    let request = key(alloc, "000102030405060708090a0b0c0d0e0f", "0001020304050607")?;
+    let response = key(alloc, "101112131415161718191a1b1c1d1e1f", "1011121314151617")?;
+    key_pair(alloc, request, response)
+}
+
+// The keys that the receiver seals with.
+fn receiver_keys(alloc: Global) -> Result<Node, NoMemory>
+    ensures { IfOk result (λ n. tree_of n ≡ spec.sealing_keys Receiver) }
+{
+    let request = key(alloc, "202122232425262728292a2b2c2d2e2f", "2021222324252627")?;
+    let response = key(alloc, "303132333435363738393a3b3c3d3e3f", "3031323334353637")?;
+    key_pair(alloc, request, response)
 }
 
 // The keys that a SEPP seals with.
@@ -139,16 +154,8 @@ fn sealing_keys(alloc: Global, sepp: Sepp) -> Result<Node, NoMemory>
     ensures { IfOk result (λ n. tree_of n ≡ spec.sealing_keys (sepp_view sepp)) }
 {
     match sepp {
-        Sepp::Sender => key_pair(
-            alloc,
-            ("000102030405060708090a0b0c0d0e0f", "0001020304050607"),
-            ("101112131415161718191a1b1c1d1e1f", "1011121314151617"),
-        ),
-        Sepp::Receiver => key_pair(
-            alloc,
-            ("202122232425262728292a2b2c2d2e2f", "2021222324252627"),
-            ("303132333435363738393a3b3c3d3e3f", "3031323334353637"),
-        ),
+        Sepp::Sender => sender_keys(alloc),
+        Sepp::Receiver => receiver_keys(alloc),
     }
 }
 

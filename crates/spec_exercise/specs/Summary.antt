@@ -31,11 +31,19 @@ named name value = name ++ 32 ∷ (value ++ 10 ∷ [])
 abbrev pub counted : List ℕ → ℕ → List ℕ
 counted name count = named name (decimal count)
 
--- the five lines for so many messages and the texts of these answers
-abbrev pub summary_text : ℕ → List (List ℕ) → List ℕ
-summary_text messages answers =
+-- the five lines, with the digest in hexadecimal digits
+abbrev pub five_lines : (messages answers delivered refused : ℕ) → List ℕ → List ℕ
+five_lines messages answers delivered refused digest =
     counted (codes "messages") messages
-    ++ counted (codes "answers") (length answers)
-    ++ counted (codes "delivered") (count_by (answer_has (codes "delivered")) answers)
-    ++ counted (codes "refused") (count_by (answer_has (codes "refused")) answers)
-    ++ named (codes "sha256") (encode_lower (sha256 (answer_lines answers)))
+    ++ (counted (codes "answers") answers
+    ++ (counted (codes "delivered") delivered
+    ++ (counted (codes "refused") refused
+    ++ named (codes "sha256") digest)))
+
+-- the summary for so many messages and the texts of these answers
+abbrev pub summary_text : ℕ → List (List ℕ) → List ℕ
+summary_text messages answers = five_lines messages
+    (length answers)
+    (count_by (answer_has (codes "delivered")) answers)
+    (count_by (answer_has (codes "refused")) answers)
+    (encode_lower (sha256 (answer_lines answers)))
