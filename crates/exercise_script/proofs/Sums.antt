@@ -25,7 +25,7 @@ pub summary_is : (s : Summary) (messages : ℕ) (answers : List (List ℕ)) (dig
 summary_is s messages answers digest text taken few digest_is text_is =
     let all : s.answers ≡ length answers = omega (arith, taken.answers_are, few) in
     let delivered : s.delivered ≡ count_by (answer_has (codes "delivered")) answers =
-        omega (arith, taken.delivered_are, few, count_by-le-length (answer_has (codes "delivered")) answers) in
+    omega (arith, taken.delivered_are, few, count_by-le-length (answer_has (codes "delivered")) answers) in
     let refused : s.refused ≡ count_by (answer_has (codes "refused")) answers =
-        omega (arith, taken.refused_are, few, count_by-le-length (answer_has (codes "refused")) answers) in
+    omega (arith, taken.refused_are, few, count_by-le-length (answer_has (codes "refused")) answers) in
     text_is ∙ (λ i. five_lines messages (all i) (delivered i) (refused i) (digest_is i))

@@ -103,7 +103,12 @@ pub(crate) fn context_node(alloc: Global, sepp: Sepp) -> Result<Node, NoMemory>
     put(alloc, &mut map, "policy", policy(alloc)?)?;
     put_text(alloc, &mut map, "plmn", peer.plmn())?;
     put_text(alloc, &mut map, "peer_node", peer.name())?;
-    put(alloc, &mut map, "peer_ipx", list_of_text(alloc, peer.ipx())?)?;
+    put(
+        alloc,
+        &mut map,
+        "peer_ipx",
+        list_of_text(alloc, peer.ipx())?,
+    )?;
     put_text(alloc, &mut map, "peer", peer.context())?;
     put(alloc, &mut map, "own_ipx", list_of_text(alloc, sepp.ipx())?)?;
     put_text(alloc, &mut map, "node", sepp.name())?;
@@ -135,8 +140,16 @@ fn key_pair(alloc: Global, request: Node, response: Node) -> Result<Node, NoMemo
 fn sender_keys(alloc: Global) -> Result<Node, NoMemory>
     ensures { IfOk result (λ n. tree_of n ≡ spec.sealing_keys Sender) }
 {
-    let request = key(alloc, "000102030405060708090a0b0c0d0e0f", "0001020304050607")?;
-    let response = key(alloc, "101112131415161718191a1b1c1d1e1f", "1011121314151617")?;
+    let request = key(
+        alloc,
+        "000102030405060708090a0b0c0d0e0f",
+        "0001020304050607",
+    )?;
+    let response = key(
+        alloc,
+        "101112131415161718191a1b1c1d1e1f",
+        "1011121314151617",
+    )?;
     key_pair(alloc, request, response)
 }
 
@@ -144,8 +157,16 @@ fn sender_keys(alloc: Global) -> Result<Node, NoMemory>
 fn receiver_keys(alloc: Global) -> Result<Node, NoMemory>
     ensures { IfOk result (λ n. tree_of n ≡ spec.sealing_keys Receiver) }
 {
-    let request = key(alloc, "202122232425262728292a2b2c2d2e2f", "2021222324252627")?;
-    let response = key(alloc, "303132333435363738393a3b3c3d3e3f", "3031323334353637")?;
+    let request = key(
+        alloc,
+        "202122232425262728292a2b2c2d2e2f",
+        "2021222324252627",
+    )?;
+    let response = key(
+        alloc,
+        "303132333435363738393a3b3c3d3e3f",
+        "3031323334353637",
+    )?;
     key_pair(alloc, request, response)
 }
 
@@ -165,7 +186,12 @@ pub(crate) fn keys_node(alloc: Global, sepp: Sepp) -> Result<Node, NoMemory>
 {
     let mut map = NodeMap::new(alloc);
     put(alloc, &mut map, "send", sealing_keys(alloc, sepp)?)?;
-    put(alloc, &mut map, "receive", sealing_keys(alloc, sepp.peer())?)?;
+    put(
+        alloc,
+        &mut map,
+        "receive",
+        sealing_keys(alloc, sepp.peer())?,
+    )?;
     put_text(alloc, &mut map, "node", sepp.name())?;
     put_text(alloc, &mut map, "id", sepp.context())?;
     put_text(alloc, &mut map, "do", "keys")?;

@@ -1,6 +1,6 @@
 //! The summary of answers.
 
-ghost use Rattle.std.specs.Prelude.{◌≡◌, ◌<◌, ◌^◌, ◌++◌, [], ◌∷◌, ℕ, List, length, min, IfOk, OnOk, Some, codes};
+ghost use Rattle.std.specs.Prelude.{◌≡◌, ◌<◌, ◌^◌, ◌++◌, [], ◌∷◌, ℕ, List, length, min, IfOk, OnOk, OnErr, Some, codes};
 ghost use Rattle.std.specs.Fmt.{decimal};
 ghost use Rattle.hex.specs.Hex.{encode_lower};
 ghost use Rattle.spec_documents.specs.Reading.{document_of};
@@ -57,8 +57,7 @@ fn five_lines(
 ) -> Result<Text, NoMemory>
     ensures { IfOk result (λ text. text ≡ spec.five_lines messages answers delivered refused digest.now) }
 {
-    Ok(Text::from_string(format!(
-        in alloc;
+    Ok(Text::from_string(format!(in alloc;
         "messages {messages}\nanswers {answers}\ndelivered {delivered}\nrefused {refused}\nsha256 {digest}\n"
     )?))
 }
@@ -79,9 +78,10 @@ impl Summary {
     /// Takes the text of one answer more, without its newline.
     ///
     /// # Errors
-    /// `NoMemory` where memory was refused.
+    /// `NoMemory` where memory was refused; then the answer isn't taken.
     pub fn take(&mut self, alloc: Global, answer: &[u8]) -> Result<(), NoMemory>
-        ensures { OnOk result ((answers : List (List ℕ)) → HasTaken self.old answers → HasTaken self.new (answers ++ answer.now ∷ [])) }
+        ensures taken { OnOk result ((answers : List (List ℕ)) → HasTaken self.old answers → HasTaken self.new (answers ++ answer.now ∷ [])) }
+        ensures same { OnErr result (self.new ≡ self.old) }
     {
         let (delivered, refused) = told_of(alloc, answer)?;
         self.answers = self.answers.saturating_add(1);
@@ -108,7 +108,14 @@ impl Summary {
         let delivered = self.delivered;
         let refused = self.refused;
         let digest = hex::encode(alloc, self.hasher.finalize())?;
-        let text = five_lines(alloc, messages, answers, delivered, refused, digest.as_str())?;
+        let text = five_lines(
+            alloc,
+            messages,
+            answers,
+            delivered,
+            refused,
+            digest.as_str(),
+        )?;
         Ok(text)
     }
 }

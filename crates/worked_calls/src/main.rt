@@ -16,6 +16,7 @@ mod changes;
 mod ciphers;
 mod differences;
 mod entries;
+mod exercises;
 mod given;
 mod holes;
 mod jwes;

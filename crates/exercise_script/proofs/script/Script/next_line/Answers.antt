@@ -1,6 +1,5 @@
-use Rattle.std.proofs.Common.{◌∙◌, ap, sym}
+use Rattle.std.proofs.Common.{sym}
 use Rattle.spec_exercise.specs.Script.{opening}
-use Rattle.exercise_script.specs.Parts.{lines_left}
 use Rattle.exercise_script.proofs.Openings.{opening_step}
 use Rattle.exercise_script.proofs.script.Script.next_line.Goals as goal
 
