@@ -1,7 +1,7 @@
 -- A turn has at most four lines.
-use Rattle.std.proofs.Common.{◌≡◌, ℕ, zero, suc, ◌+◌, ◌*◌, ◌≤◌, Bool, true, false, cond, List, [], ◌∷◌, ◌++◌, length, map, flat_map, arith, length-append}
+use Rattle.std.proofs.Common.{ℕ, zero, suc, ◌+◌, ◌*◌, ◌≤◌, Bool, true, false, cond, [], ◌∷◌, ◌++◌, length, flat_map, arith, length-append}
 use Rattle.std.proofs.lemmas.List.{length-map}
-use Rattle.spec_exercise.specs.Script.{Line, Turn, Send, Pass, Deliver, opening, turn_lines, turn_with, turns, turns_from, next_x, latest, is_passed, is_repeated, script}
+use Rattle.spec_exercise.specs.Script.{Line, Turn, Send, Pass, Deliver, turn_lines, turn_with, turns_from, next_x, latest, is_passed, is_repeated, script}
 use Rattle.spec_exercise.specs.Documents.{line_text, lines}
 
 four : (passed repeated : Bool) (send pass deliver again : Line)
