@@ -38,14 +38,19 @@ fn take_line(alloc: Global, summary: &mut Summary, line: Line) -> Option<()> {
     }
 }
 
-// Whether all lines that are left were taken as answers.
-fn take_lines(alloc: Global, summary: &mut Summary, script: &mut Script) -> bool {
-    while let Some(line) = script.next_line() {
-        if take_line(alloc, summary, line).is_none() {
-            return false;
+// Whether all lines that are left were taken as answers. A script has at most four lines a turn, and six before them.
+fn take_lines(alloc: Global, summary: &mut Summary, script: &mut Script, messages: u32) -> bool {
+    for _ in 0..4 * u64::from(messages) + 7 {
+        match script.next_line() {
+            Some(line) => {
+                if take_line(alloc, summary, line).is_none() {
+                    return false;
+                }
+            }
+            None => return true,
         }
     }
-    true
+    false
 }
 
 fn summary_node(alloc: Global, summary: Summary, messages: u32) -> Option<Node> {
@@ -60,7 +65,7 @@ pub fn script_summary_call(alloc: Global, args: Args<'_>) -> Option<Node> {
     let messages = args.number("messages")?;
     let mut script = Script::new(messages);
     let mut summary = Summary::new();
-    if take_lines(alloc, &mut summary, &mut script) {
+    if take_lines(alloc, &mut summary, &mut script, messages) {
         summary_node(alloc, summary, messages)
     } else {
         None
