@@ -2,8 +2,8 @@
 use crate::args::Args;
 use crate::given::Given;
 use crate::{
-    block_patches, blocks, changes, ciphers, differences, entries, entry_chains, holes, jwes,
-    messages, patches, pointers, policies, records, reports, sealing, texts, values, wires,
+    block_patches, blocks, changes, ciphers, differences, entries, entry_chains, exercises, holes,
+    jwes, messages, patches, pointers, policies, records, reports, sealing, texts, values, wires,
 };
 use n32_values::Node;
 use std::alloc::Global;
@@ -134,6 +134,16 @@ fn report_call(alloc: Global, name: &str, args: Args<'_>, given: &Given) -> Opti
         "report_of" => reports::report_of_call(alloc, args, given),
         "read_report" => reports::read_report_call(alloc, args),
         "report_back" => reports::report_back_call(alloc, args, given),
+        _ => exercise_call(alloc, name, args),
+    }
+}
+
+// The script of `exercise N` and its summary.
+fn exercise_call(alloc: Global, name: &str, args: Args<'_>) -> Option<Node> {
+    match name {
+        "exercise_line" => exercises::exercise_line_call(alloc, args),
+        "script_summary" => exercises::script_summary_call(alloc, args),
+        "exercise_summary" => exercises::exercise_summary_call(alloc, args),
         _ => None,
     }
 }

@@ -17,6 +17,7 @@ mod ciphers;
 mod differences;
 mod entries;
 mod entry_chains;
+mod exercises;
 mod given;
 mod holes;
 mod jwes;
