@@ -1,0 +1,3 @@
+pub mod Told
+pub mod Words
+pub mod Calls
