@@ -6,9 +6,9 @@ use Rattle.spec_handshake.specs.Starts as starts
 use Rattle.n32c_handshake.specs.declared.capability.Capability.{Capability}
 use Rattle.n32c_handshake.specs.declared.capability.Capability.TheVariants as capabilities
 use Rattle.n32c_handshake.specs.declared.offer.Offer.{Offer}
-use Rattle.n32c_handshake.specs.declared.hands.Waiting.{Waiting}
-use Rattle.n32c_handshake.specs.declared.hands.Waiting.TheVariants as waiting
-use Rattle.n32c_handshake.specs.declared.hands.Start.{Start}
+use Rattle.n32c_handshake.specs.declared.starts.Waiting.{Waiting}
+use Rattle.n32c_handshake.specs.declared.starts.Waiting.TheVariants as waiting
+use Rattle.n32c_handshake.specs.declared.starts.Start.{Start}
 use Rattle.n32c_handshake.specs.declared.document.Ask.{Ask}
 use Rattle.n32c_handshake.specs.declared.document.Selection.{Selection}
 use Rattle.n32c_handshake.specs.declared.document.HandDocument.{HandDocument}

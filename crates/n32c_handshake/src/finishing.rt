@@ -18,7 +18,8 @@ ghost use Rattle.n32c_handshake.specs.Progress.{Finishes, FinishesOut, Leaves, H
 use crate::capability::{Capability, has_capability};
 use crate::document::{HandDocument, Selection};
 use crate::fault::{CheckFault, HandFault};
-use crate::hands::{Hands, Start, Waiting};
+use crate::hands::Hands;
+use crate::starts::{Start, Waiting};
 use crate::keeping::keep;
 use crate::policies::agree;
 use crate::read::read_document;

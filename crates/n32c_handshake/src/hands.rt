@@ -1,58 +1,14 @@
 // The starts that wait.
-ghost use Rattle.std.specs.Prelude.{◌≡◌, [], ◌∷◌, ◌++◌, ◌<◌, length, map, take, slice_get, slice_set, find, bytes_eq, IsTrue, IfSome, OnOk, OnErr, Some, None};
+ghost use Rattle.std.specs.Prelude.{◌≡◌, [], ◌∷◌, ◌++◌, ◌<◌, length, map, take, slice_get, slice_set, find, IsTrue, IfSome, OnOk, OnErr, Some, None};
 ghost use Rattle.std.specs.List.{remove as without};
 ghost use Rattle.spec_handshake.specs.Starts as spec;
 ghost use Rattle.n32c_handshake.specs.View.{start_view, waiting_view};
 ghost use Rattle.n32c_handshake.specs.Waiting.{is_named, IsFirst};
 
-use crate::offer::Offer;
+use crate::starts::{Start, Waiting, drop_of, first_in};
 use n32_values::{Hex64, NoMemory, Text};
 use std::alloc::Global;
 use std::marker::Model;
-
-/// What a start waits for.
-#[derive(Clone, Copy, Debug, PartialEq, Eq, Drop)]
-pub(crate) enum Waiting {
-    /// The choice of a capability.
-    ForChoice,
-    /// The selected parameters.
-    ForSelection,
-}
-
-fn is_same_waiting(one: Waiting, other: Waiting) -> bool
-    ensures { result ≡ spec.same_waiting (waiting_view one) (waiting_view other) }
-{
-    match one {
-        Waiting::ForChoice => matches!(other, Waiting::ForChoice),
-        Waiting::ForSelection => matches!(other, Waiting::ForSelection),
-    }
-}
-
-/// A start that waits for a document of its peer.
-#[derive(Drop)]
-pub(crate) struct Start {
-    pub(crate) node: Text,
-    pub(crate) peer: Text,
-    pub(crate) offer: Offer,
-    pub(crate) waiting: Waiting,
-}
-
-impl Start {
-    fn is_of(&self, node: &Text) -> bool
-        ensures { result ≡ bytes_eq (start_view self.now).node node.now }
-    {
-        self.node.as_str() == node.as_str()
-    }
-
-    fn waits(&self, node: &Text, call: Hex64, sender: &Text, waiting: Waiting) -> bool
-        ensures { result ≡ spec.waits node.now call.value sender.now (waiting_view waiting) (start_view self.now) }
-    {
-        self.is_of(node)
-            && self.offer.id.value == call.value
-            && self.peer.as_str() == sender.as_str()
-            && is_same_waiting(self.waiting, waiting)
-    }
-}
 
 /// The starts that wait, in the order in which they began. Contracts see their list.
 #[derive(Drop)]
@@ -88,14 +44,7 @@ impl Hands {
     pub fn drop_node(&mut self, node: &Text)
         ensures { self.new ≡ spec.without_node node.now self.old }
     {
-        let mut i = 0;
-        while i < self.starts.len() {
-            if self.starts[i].is_of(node) {
-                let _gone = self.starts.remove(i);
-            } else {
-                i += 1;
-            }
-        }
+        drop_of(&mut self.starts, node);
     }
 
     pub(crate) fn len(&self) -> usize
@@ -134,12 +83,7 @@ impl Hands {
         ensures first { IfSome result (λ i. IsFirst (spec.waits node.now call.value sender.now (waiting_view waiting)) self.now i) }
         ensures none { result ≡ None → find (spec.waits node.now call.value sender.now (waiting_view waiting)) self.now ≡ None }
     {
-        for i in 0..self.starts.len() {
-            if self.starts[i].waits(node, call, sender, waiting) {
-                return Some(i);
-            }
-        }
-        None
+        first_in(&self.starts, node, call, sender, waiting)
     }
 
     /// The start at a place that is there.

@@ -16,6 +16,7 @@ mod policies;
 mod read;
 mod replying;
 mod starting;
+mod starts;
 mod suites;
 mod write;
 

@@ -101,7 +101,7 @@ fn reply_to_ask(
 
 // The reply to a document, or the first check that refuses it, but for the limit on records.
 #[tactic(auto, unfolding(spec_documents::specs::Chain::chains))]
-fn reply(
+fn reply_to(
     alloc: Global,
     store: &Store,
     node: &Text,
@@ -152,7 +152,7 @@ pub fn answer<K: Keeper>(
     ensures last { IsErrOf result HandFault.Keeper → store.old.fresh ≡ true → IsOk (spec.replies store.old.records node.now plmn.now (offer_view offer) document.now) }
 {
     store.refresh(alloc, keeper)?;
-    match reply(alloc, store, node, plmn, offer, document.node())? {
+    match reply_to(alloc, store, node, plmn, offer, document.node())? {
         Reply::Chose(document) => Ok(Replied::Selected { document }),
         Reply::Opens { document, context } => {
             let id = context.id;

@@ -11,7 +11,8 @@ ghost use Rattle.n32c_handshake.specs.View.{offer_view};
 ghost use Rattle.n32c_handshake.specs.Outcome.{Comes, IsDocument, ChecksOut, IsBegun};
 
 use crate::fault::{CheckFault, HandFault};
-use crate::hands::{Hands, Start, Waiting};
+use crate::hands::Hands;
+use crate::starts::{Start, Waiting};
 use crate::keeping::keep;
 use crate::offer::Offer;
 use crate::write::supports_doc;
