@@ -109,3 +109,16 @@ seen_removed view [] zero = refl
 seen_removed view [] (suc i) = refl
 seen_removed view (y ∷ ys) zero = refl
 seen_removed view (y ∷ ys) (suc i) = ap (λ z. view y ∷ z) (seen_removed view ys i)
+
+-- an item goes that does not pass
+pub gone_at : {X A : Type 0} (view : X → A) (p : A → Bool) (xs ys : List X) (i : ℕ) (x : X) (all : List A) → slice_get (map view xs) i ≡ Some (view x) → p (view x) ≡ false → ys ≡ remove xs i
+    → take i (map view xs) ++ filter p (drop i (map view xs)) ≡ all → take i (map view ys) ++ filter p (drop i (map view ys)) ≡ all
+gone_at view p xs ys i x all there fails is h =
+    ap (λ zs. take i (map view zs) ++ filter p (drop i (map view zs))) is
+    ∙ (ap (λ zs. take i zs ++ filter p (drop i zs)) (seen_removed view xs i)
+    ∙ (gone_on p (map view xs) i (view x) there fails ∙ h))
+
+-- an item stays that passes
+pub stays_at : {X A : Type 0} (view : X → A) (p : A → Bool) (xs : List X) (i : ℕ) (x : X) (all : List A) → slice_get (map view xs) i ≡ Some (view x) → p (view x) ≡ true
+    → take i (map view xs) ++ filter p (drop i (map view xs)) ≡ all → take (i + 1) (map view xs) ++ filter p (drop (i + 1) (map view xs)) ≡ all
+stays_at view p xs i x all there passes h = rw add-one (stays_on p (map view xs) i (view x) there passes ∙ h)

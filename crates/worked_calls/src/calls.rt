@@ -2,7 +2,7 @@
 use crate::args::Args;
 use crate::given::Given;
 use crate::{
-    block_patches, blocks, changes, ciphers, differences, entries, holes, jwes, messages, patches,
+    block_patches, blocks, changes, ciphers, differences, entries, handshakes, holes, jwes, messages, patches,
     pointers, policies, records, reports, sealing, texts, values, wires,
 };
 use n32_values::Node;
@@ -133,6 +133,16 @@ fn report_call(alloc: Global, name: &str, args: Args<'_>, given: &Given) -> Opti
         "report_of" => reports::report_of_call(alloc, args, given),
         "read_report" => reports::read_report_call(alloc, args),
         "report_back" => reports::report_back_call(alloc, args, given),
+        _ => handshake_call(alloc, name, args),
+    }
+}
+
+// Handshakes.
+fn handshake_call(alloc: Global, name: &str, args: Args<'_>) -> Option<Node> {
+    match name {
+        "handshake" => handshakes::handshake_call(alloc, args),
+        "handshake_wires" => handshakes::handshake_wires_call(alloc, args),
+        "handshake_record" => handshakes::handshake_record_call(alloc, args),
         _ => None,
     }
 }

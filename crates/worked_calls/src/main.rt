@@ -17,6 +17,8 @@ mod ciphers;
 mod differences;
 mod entries;
 mod given;
+mod handshake_steps;
+mod handshakes;
 mod holes;
 mod jwes;
 mod keys;

@@ -1,4 +1,4 @@
-use Rattle.std.proofs.Common.{ap, ◌∙◌, ◌≤◌, length, map, arith}
+use Rattle.std.proofs.Common.{ap, ◌∙◌, ◌≤◌, length, map, take, arith}
 use Rattle.std.proofs.lemmas.List.{take_all, map-id}
 use Rattle.n32_values.specs.View.{tree_of}
 use Rattle.spec_documents.specs.Tree.{items, trees}
