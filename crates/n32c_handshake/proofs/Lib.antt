@@ -2,3 +2,4 @@ pub mod Told
 pub mod Words
 pub mod Calls
 pub mod Waiting
+pub mod Checks

@@ -1,7 +1,8 @@
 -- The starts that wait: the first that passes, those that stay, and what all pass.
-use Rattle.std.proofs.Common.{◌≡◌, ℕ, suc, zero, ◌+◌, ◌<◌, ◌≤◌, Bool, true, false, ◌&&◌, List, [], ◌∷◌, ◌++◌, length, map, take, drop, Option, None, Some, slice_get, slice_set, find, filter, refl, sym, ap, ◌∙◌, add-one, IsTrue, if◌then◌else◌, arith, get_or}
+use Rattle.std.proofs.Common.{◌≡◌, ℕ, suc, zero, ◌+◌, ◌<◌, ◌≤◌, Bool, true, false, ◌&&◌, List, [], ◌∷◌, ◌++◌, length, map, take, drop, Option, None, Some, slice_get, slice_set, find, filter, refl, sym, ap, ◌∙◌, add-one, IsTrue, if◌then◌else◌, arith, get_or, subst, IfSome}
 use Rattle.std.specs.List.{remove, list_all}
 use Rattle.std.proofs.lemmas.Bool.{and_parts, and_from}
+use Rattle.std.proofs.lemmas.List.{length-map}
 use Rattle.spec_handshake.specs.Starts.{Start, goes_on, first_goes_on, without_first}
 use Rattle.n32c_handshake.specs.Waiting.{IsFirst}
 
@@ -122,3 +123,20 @@ gone_at view p xs ys i x all there fails is h =
 pub stays_at : {X A : Type 0} (view : X → A) (p : A → Bool) (xs : List X) (i : ℕ) (x : X) (all : List A) → slice_get (map view xs) i ≡ Some (view x) → p (view x) ≡ true
     → take i (map view xs) ++ filter p (drop i (map view xs)) ≡ all → take (i + 1) (map view xs) ++ filter p (drop (i + 1) (map view xs)) ≡ all
 stays_at view p xs i x all there passes h = rw add-one (stays_on p (map view xs) i (view x) there passes ∙ h)
+
+pub seen_set : {X A : Type 0} (view : X → A) (xs : List X) (i : ℕ) (x : X) → map view (slice_set xs i x) ≡ slice_set (map view xs) i (view x)
+seen_set view [] i x = refl
+seen_set view (y ∷ ys) zero x = refl
+seen_set view (y ∷ ys) (suc i) x = ap (λ z. view y ∷ z) (seen_set view ys i x)
+
+-- what all pass, the one at a place passes
+pub all_at : {A : Type 0} (p : A → Bool) (xs : List A) (i : ℕ) (s : A) → slice_get xs i ≡ Some s → IsTrue (list_all p xs) → IsTrue (p s)
+all_at p [] i s there h = cc
+all_at p (y ∷ ys) zero s there h = let same : y ≡ s = cc in subst (λ z. IsTrue (p z)) same (and_parts (p y) (list_all p ys) h).0
+all_at p (y ∷ ys) (suc i) s there h = all_at p ys i s there (and_parts (p y) (list_all p ys) h).1
+
+pub some_at : {A : Type 0} (P : A → Type 0) (o : Option A) (s : A) → o ≡ Some s → P s → IfSome o P
+some_at P o s is h = subst (λ z. IfSome z P) (sym is) h
+
+pub seen_within : {X A : Type 0} (view : X → A) (xs : List X) (ys : List A) (i : ℕ) → map view xs ≡ ys → i < length ys → i < length xs
+seen_within view xs ys i e lt = omega (arith, lt, ap length e, length-map view xs)
