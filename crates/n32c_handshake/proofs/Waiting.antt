@@ -139,4 +139,4 @@ pub some_at : {A : Type 0} (P : A → Type 0) (o : Option A) (s : A) → o ≡ S
 some_at P o s is h = subst (λ z. IfSome z P) (sym is) h
 
 pub seen_within : {X A : Type 0} (view : X → A) (xs : List X) (ys : List A) (i : ℕ) → map view xs ≡ ys → i < length ys → i < length xs
-seen_within view xs ys i e lt = omega (arith, lt, ap length e, length-map view xs)
+seen_within view xs ys i e lt = omega (arith, lt, ap length e, length-map xs view)
