@@ -150,3 +150,11 @@ no_keeper checking.ContextUsed is = cc
 no_keeper checking.NotExpected is = cc
 no_keeper checking.ContextNotFound is = cc
 no_keeper checking.NoMemory is = cc
+
+pub passed_put : {X : Type 0} (checks : List Record → Result X Refusal) (mid now : Option (List (List ℕ))) (old read new : Stored) (x : X) (r : Record) (kept : Result (Unit {0}) HandFault)
+    → checks read.records ≡ if_room read.records x → Keeps mid now read new r kept → kept ≡ Err faults.Keeper → read ≡ old → IsOk (checks old.records)
+passed_put checks mid now old read new x r (Ok u) is k e same = cc
+passed_put checks mid now old read new x r (Err faults.Keeper) is k e same = subst (λ z. IsOk (checks z.records)) same (passed checks read.records x k.room is)
+passed_put checks mid now old read new x r (Err faults.Limit) is k e same = cc
+passed_put checks mid now old read new x r (Err faults.NoMemory) is k e same = cc
+passed_put checks mid now old read new x r (Err e') is k e same = absurd k
