@@ -3,3 +3,5 @@ pub mod Words
 pub mod Calls
 pub mod Waiting
 pub mod Checks
+pub mod Replies
+pub mod Awaited
