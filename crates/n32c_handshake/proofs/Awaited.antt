@@ -1,5 +1,5 @@
 -- What a reply comes to, from the start that waits for it.
-use Rattle.std.proofs.Common.{◌≡◌, ⊤, ℕ, zero, suc, ◌<◌, Bool, true, false, not, List, [], ◌∷◌, length, slice_get, find, Option, None, Some, Result, Ok, Err, refl, sym, ap, ◌∙◌, arith, bytes_eq, if◌then◌else◌}
+use Rattle.std.proofs.Common.{◌≡◌, ℕ, zero, suc, ◌<◌, Bool, true, false, not, List, [], ◌∷◌, length, slice_get, find, Option, None, Some, Result, Ok, Err, refl, sym, ap, ◌∙◌, arith, bytes_eq, if◌then◌else◌}
 use Rattle.std.proofs.lemmas.Bool.{and_parts}
 use Rattle.std.proofs.lemmas.Slice.Eq.{bytes_eq-Decides}
 use Rattle.spec_documents.specs.Chain.{◌>>=◌, unless, none_of}
@@ -126,12 +126,12 @@ gone : (p : Start → Bool) (starts : List Start) (s : Start) (b : Selection) (w
 gone p starts s b why e = rw (ends_by (has_suite s.offer.suites b.suite) (difference s.offer.policy b.policy) why e) refl
 
 pub left_told : (p : Start → Bool) (starts : List Start) (s : Start) (b : Selection) (fault : CheckFault) → (fault ≡ checking.NoMemory → ⊥) → Tells (told fault) (accepted s b) → left p starts (told fault) ≡ without_first p starts
-left_told p starts s b (checking.Form member) no e = gone p starts s b _ e
-left_told p starts s b checking.NoCommonCapability no e = gone p starts s b _ e
-left_told p starts s b checking.NoCommonSuite no e = gone p starts s b _ e
-left_told p starts s b (checking.MappingDiffers number own other) no e = gone p starts s b _ e
-left_told p starts s b checking.TypesDiffer no e = gone p starts s b _ e
-left_told p starts s b checking.ContextUsed no e = gone p starts s b _ e
-left_told p starts s b checking.NotExpected no e = gone p starts s b _ e
-left_told p starts s b checking.ContextNotFound no e = gone p starts s b _ e
-left_told p starts s b checking.NoMemory no e = absurd (no refl)
+left_told p starts s b (checking.Form member) wanting e = gone p starts s b _ e
+left_told p starts s b checking.NoCommonCapability wanting e = gone p starts s b _ e
+left_told p starts s b checking.NoCommonSuite wanting e = gone p starts s b _ e
+left_told p starts s b (checking.MappingDiffers number own other) wanting e = gone p starts s b _ e
+left_told p starts s b checking.TypesDiffer wanting e = gone p starts s b _ e
+left_told p starts s b checking.ContextUsed wanting e = gone p starts s b _ e
+left_told p starts s b checking.NotExpected wanting e = gone p starts s b _ e
+left_told p starts s b checking.ContextNotFound wanting e = gone p starts s b _ e
+left_told p starts s b checking.NoMemory wanting e = absurd (wanting refl)

@@ -144,11 +144,13 @@ fn take_selection(
             let context = context_of(alloc, hands.start(at), selection)?;
             Ok(Progress::Opens { at, context })
         }
-        Err(CheckFault::NoMemory) => Err(CheckFault::NoMemory),
-        Err(fault) => {
-            hands.remove(at);
-            Err(fault)
-        }
+        Err(fault) => match fault {
+            CheckFault::NoMemory => Err(CheckFault::NoMemory),
+            refusal => {
+                hands.remove(at);
+                Err(refusal)
+            }
+        },
     }
 }
 

@@ -26,15 +26,12 @@ returns-in-Ok-clause-checks c =
 pub returns-in-Ok-clause-leaves : goal.returns-in-Ok-clause-leaves
 returns-in-Ok-clause-leaves c = (refl, first_within _ c.args.hands.now c.in-Some.at c.in-Some.ensures.first, c.in-Some.ensures.first.without)
 
-pub remove-requires : goal.remove-requires
-remove-requires c = first_within _ c.args.hands.now c.in-Some.at c.in-Some.ensures.first
-
 pub returns : goal.returns
 returns c =
     let start : Start = start_view c.start.result.now in
     let found = found_at (waits c.args.node.now c.args.selection.call.value c.args.selection.sender ForSelection) c.args.hands.now c.in-Some.at start c.in-Some.ensures.first c.start.ensures.start in
     record {
       checks = told_at c.args.store.now.records c.args.hands.now c.args.node.now c.args.plmn.now (selection_view c.args.selection) start (told c.in-Err.fault) found c.in-Err.ensures.accepted;
-      leaves = c.remove.ensures ∙ (c.in-Some.ensures.first.without ∙ sym (left_told _ c.args.hands.now start (selection_view c.args.selection) c.in-Err.fault c.in-Err.fault-is c.in-Err.ensures.accepted));
+      leaves = c.remove.ensures ∙ (c.in-Some.ensures.first.without ∙ sym (left_told _ c.args.hands.now start (selection_view c.args.selection) c.in-Err.fault c.in_default-fault.not-NoMemory c.in-Err.ensures.accepted));
       named = tt;
     }
