@@ -3,3 +3,4 @@ pub mod Words
 pub mod Calls
 pub mod Waiting
 pub mod Checks
+pub mod Leaving

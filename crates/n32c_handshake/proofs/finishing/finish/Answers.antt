@@ -1,3 +1,4 @@
+use Rattle.n32c_handshake.proofs.Leaving.{unread}
 use Rattle.n32c_handshake.proofs.finishing.finish.Goals as goal
 
 pub returns-in_err-refresh-clause-finishes : goal.returns-in_err-refresh-clause-finishes
