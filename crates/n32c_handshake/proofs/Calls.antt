@@ -6,7 +6,7 @@ use Rattle.spec_documents.specs.Chain.{◌>>=◌}
 use Rattle.spec_documents.specs.Gives.{Tells}
 use Rattle.spec_records.specs.Records.{Record, record_limit}
 use Rattle.spec_messages.specs.Limits.{many_records}
-use Rattle.spec_exchange.specs.Outside.{Choice, Read, ReadFails, BadRecord, Putting, Kept, Lost, KeptUntold, Journal, Keeper, Own, Outcome, puts, behind_reading, or_refusal}
+use Rattle.spec_exchange.specs.Outside.{Choice, Read, ReadFails, BadRecord, Putting, Kept, Lost, KeptUntold, Own, Outcome, puts, behind_reading, or_refusal}
 use Rattle.spec_handshake.specs.Refusals.{Refusal, Beyond}
 use Rattle.n32_outside.specs.Contents.{Stays}
 use Rattle.context_store.specs.Stores.{Stored, Holds, NamesBad, IsFirstBad}
