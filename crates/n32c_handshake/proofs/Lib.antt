@@ -4,3 +4,5 @@ pub mod Calls
 pub mod Waiting
 pub mod Checks
 pub mod Leaving
+pub mod Replies
+pub mod Awaited

@@ -1,5 +1,5 @@
 // What the initiator makes of a reply.
-ghost use Rattle.std.specs.Prelude.{◌≡◌, ◌≤◌, ◌<◌, true, length, IfOk, IsTrue, IsErrOf, IsOk};
+ghost use Rattle.std.specs.Prelude.{◌≡◌, ◌≤◌, ◌<◌, true, length, IfOk, OnOk, IsTrue, IsErrOf, IsOk};
 ghost use Rattle.spec_records.specs.RecordDocument.{is_well_named};
 ghost use Rattle.n32_outside.specs.Causes.{Rose};
 ghost use Rattle.n32_values.specs.View.{tree_of};
@@ -89,7 +89,8 @@ fn take_choice(
 
 // Whether the selected suite and policy are those of the offer.
 fn accepts(alloc: Global, start: &Start, selection: &Selection) -> Result<(), CheckFault>
-    ensures { Gives told (λ u. tt) result (accepted (start_view start.now) (selection_view selection.now)) }
+    ensures accepted { Gives told (λ u. tt) result (accepted (start_view start.now) (selection_view selection.now)) }
+    ensures same { OnOk result (start.now.offer.policy ≡ selection.now.policy) }
 {
     if !has_suite(&start.offer.suites, selection.suite) {
         return Err(CheckFault::NoCommonSuite);

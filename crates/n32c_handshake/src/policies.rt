@@ -1,5 +1,5 @@
 // How the policies of both sides differ.
-ghost use Rattle.std.specs.Prelude.{◌≡◌, option_map, slice_get, Err, IfOk};
+ghost use Rattle.std.specs.Prelude.{◌≡◌, option_map, slice_get, Err, IfOk, OnOk};
 ghost use Rattle.spec_documents.specs.Chain.{none_of};
 ghost use Rattle.spec_documents.specs.Gives.{Gives, Tells};
 ghost use Rattle.spec_messages.specs.PolicyDocument.{mapping_tree, ReadsBack};
@@ -49,7 +49,8 @@ fn reads_back(policy: &Policy)
 
 /// Nothing, where the policies are the same, or how they differ first.
 pub(crate) fn agree(alloc: Global, own: &Policy, other: &Policy) -> Result<(), CheckFault>
-    ensures { Gives told (λ u. tt) result (none_of PolicyDiffers (difference own.now other.now)) }
+    ensures differs { Gives told (λ u. tt) result (none_of PolicyDiffers (difference own.now other.now)) }
+    ensures same { OnOk result (own.now ≡ other.now) }
 {
     first_difference_is_told();
     reads_back(own);

@@ -97,6 +97,21 @@ fn termination_node(alloc: Global, side: &str, id: Hex64) -> Result<Node, NoMemo
     Ok(Node::Members(map))
 }
 
+fn supports_node(
+    alloc: Global,
+    call: Hex64,
+    sender: &Text,
+    capabilities: &CapabilityList,
+) -> Result<Node, NoMemory>
+    ensures { IfOk result (λ n. tree_of n ≡ spec.document_tree (spec.Supports call.value sender.now (map capability_view capabilities.now))) }
+{
+    let list = capabilities_node(alloc, capabilities)?;
+    let mut map = NodeMap::new(alloc);
+    put(alloc, &mut map, "supportedSecCapabilityList", list)?;
+    put_text(alloc, &mut map, "sender", sender.as_str())?;
+    exchange_node(alloc, "exchange-capability", call, "request", map)
+}
+
 /// The document that tells what capabilities the sender has.
 pub(crate) fn supports_doc(
     alloc: Global,
@@ -107,11 +122,7 @@ pub(crate) fn supports_doc(
     ensures { IfOk result (λ d. d ≡ spec.document_tree (spec.Supports call.value sender.now (map capability_view capabilities.now))) }
 {
     written_document_is_read();
-    let list = capabilities_node(alloc, capabilities)?;
-    let mut map = NodeMap::new(alloc);
-    put(alloc, &mut map, "supportedSecCapabilityList", list)?;
-    put_text(alloc, &mut map, "sender", sender.as_str())?;
-    let node = exchange_node(alloc, "exchange-capability", call, "request", map)?;
+    let node = supports_node(alloc, call, sender, capabilities)?;
     Ok(Doc::from_shallow(node))
 }
 
@@ -146,6 +157,26 @@ fn put_parameters(
     Ok(())
 }
 
+fn asks_node(
+    alloc: Global,
+    node: &Text,
+    plmn: &PlmnId,
+    offer: &Offer,
+) -> Result<Node, NoMemory>
+    ensures { IfOk result (λ n. tree_of n ≡ spec.document_tree (spec.Asks (ask_of node.now plmn.now (offer_view offer.now)))) }
+{
+    let providers = providers_node(alloc, &offer.ipx)?;
+    let suites = suites_node(alloc, &offer.suites)?;
+    let policy = policy_doc(alloc, &offer.policy)?;
+    let mut map = NodeMap::new(alloc);
+    put_text(alloc, &mut map, "sender", node.as_str())?;
+    put(alloc, &mut map, "protectionPolicyInfo", policy)?;
+    put_parameters(alloc, &mut map, plmn, offer.id)?;
+    put(alloc, &mut map, "jweCipherSuiteList", suites)?;
+    put(alloc, &mut map, "ipxProviderSecInfoList", providers)?;
+    exchange_node(alloc, "exchange-params", offer.id, "request", map)
+}
+
 /// The document that asks for an offer's parameters.
 pub(crate) fn asks_doc(
     alloc: Global,
@@ -156,17 +187,29 @@ pub(crate) fn asks_doc(
     ensures { IfOk result (λ d. d ≡ spec.document_tree (spec.Asks (ask_of node.now plmn.now (offer_view offer.now)))) }
 {
     written_document_is_read();
+    let document = asks_node(alloc, node, plmn, offer)?;
+    Ok(Doc::from_shallow(document))
+}
+
+fn selects_node(
+    alloc: Global,
+    node: &Text,
+    plmn: &PlmnId,
+    offer: &Offer,
+    call: Hex64,
+    suite: Suite,
+) -> Result<Node, NoMemory>
+    ensures { IfOk result (λ n. tree_of n ≡ spec.document_tree (spec.Selects (record { call = call.value; sender = node.now; id = offer.now.id.value; plmn = plmn.now; suite = suite_view suite; policy = offer.now.policy; ipx = offer.now.ipx }))) }
+{
     let providers = providers_node(alloc, &offer.ipx)?;
-    let suites = suites_node(alloc, &offer.suites)?;
     let policy = policy_doc(alloc, &offer.policy)?;
     let mut map = NodeMap::new(alloc);
     put_text(alloc, &mut map, "sender", node.as_str())?;
-    put(alloc, &mut map, "protectionPolicyInfo", policy)?;
+    put_text(alloc, &mut map, "selectedJweCipherSuite", suite.name())?;
+    put(alloc, &mut map, "selProtectionPolicyInfo", policy)?;
     put_parameters(alloc, &mut map, plmn, offer.id)?;
-    put(alloc, &mut map, "jweCipherSuiteList", suites)?;
     put(alloc, &mut map, "ipxProviderSecInfoList", providers)?;
-    let document = exchange_node(alloc, "exchange-params", offer.id, "request", map)?;
-    Ok(Doc::from_shallow(document))
+    exchange_node(alloc, "exchange-params", call, "response", map)
 }
 
 /// The document that selects parameters for the call of that id.
@@ -181,15 +224,7 @@ pub(crate) fn selects_doc(
     ensures { IfOk result (λ d. d ≡ spec.document_tree (spec.Selects (record { call = call.value; sender = node.now; id = offer.now.id.value; plmn = plmn.now; suite = suite_view suite; policy = offer.now.policy; ipx = offer.now.ipx }))) }
 {
     written_document_is_read();
-    let providers = providers_node(alloc, &offer.ipx)?;
-    let policy = policy_doc(alloc, &offer.policy)?;
-    let mut map = NodeMap::new(alloc);
-    put_text(alloc, &mut map, "sender", node.as_str())?;
-    put_text(alloc, &mut map, "selectedJweCipherSuite", suite.name())?;
-    put(alloc, &mut map, "selProtectionPolicyInfo", policy)?;
-    put_parameters(alloc, &mut map, plmn, offer.id)?;
-    put(alloc, &mut map, "ipxProviderSecInfoList", providers)?;
-    let document = exchange_node(alloc, "exchange-params", call, "response", map)?;
+    let document = selects_node(alloc, node, plmn, offer, call, suite)?;
     Ok(Doc::from_shallow(document))
 }
 

@@ -1,7 +1,12 @@
+use Rattle.std.proofs.Common.{sym, subst, ◌∙◌}
+use Rattle.spec_documents.specs.Gives.{Gives}
+use Rattle.n32c_handshake.specs.Faults.{told}
+use Rattle.n32c_handshake.specs.View.{selection_view, start_view}
+use Rattle.n32c_handshake.proofs.Awaited.{suite_refused, suite_taken}
 use Rattle.n32c_handshake.proofs.finishing.accepts.Goals as goal
 
 pub returns-then-not-has_suite : goal.returns-then-not-has_suite
-returns-then-not-has_suite c = ?
+returns-then-not-has_suite c = suite_refused (start_view c.args.start.now) (selection_view c.args.selection.now) (sym c.has_suite.ensures ∙ c.if-not-has_suite.true)
 
-pub returns : goal.returns
-returns c = ?
+pub returns-clause-accepted : goal.returns-clause-accepted
+returns-clause-accepted c = rw (suite_taken (start_view c.args.start.now) (selection_view c.args.selection.now) (sym c.has_suite.ensures ∙ c.if-not-has_suite.false)) c.agree.ensures.differs
