@@ -6,7 +6,7 @@ use Rattle.spec_documents.specs.Chain.{◌>>=◌}
 use Rattle.spec_documents.specs.Gives.{Tells}
 use Rattle.spec_records.specs.Records.{Record, record_limit}
 use Rattle.spec_messages.specs.Limits.{many_records}
-use Rattle.spec_exchange.specs.Outside.{Choice, Read, ReadFails, BadRecord, Putting, Kept, Lost, KeptUntold, Journal, Keeper, Own, Outcome, puts, behind_reading, or_refusal}
+use Rattle.spec_exchange.specs.Outside.{Choice, Read, ReadFails, BadRecord, Putting, Kept, Lost, KeptUntold, Own, Outcome, puts, behind_reading, or_refusal}
 use Rattle.spec_handshake.specs.Refusals.{Refusal, Beyond}
 use Rattle.n32_outside.specs.Contents.{Stays}
 use Rattle.context_store.specs.Stores.{Stored, Holds, NamesBad, IsFirstBad}
@@ -100,11 +100,11 @@ given Is checks give held now old new v x t is_read is gives seen =
 
 -- ---- the put
 
-roomy : {X : Type 0} (records : List Record) (x : X) → length records < record_limit → if_room records x ≡ Ok x
+pub roomy : {X : Type 0} (records : List Record) (x : X) → length records < record_limit → if_room records x ≡ Ok x
 unfolding ◌>>=◌
 roomy records x lt = rw (lt-leb record_limit (length records) lt) refl
 
-full : {X : Type 0} (records : List Record) (x : X) → record_limit ≤ length records → if_room records x ≡ Err (Beyond many_records)
+pub full : {X : Type 0} (records : List Record) (x : X) → record_limit ≤ length records → if_room records x ≡ Err (Beyond many_records)
 unfolding ◌>>=◌
 full records x le = rw (le-leb record_limit (length records) le) refl
 

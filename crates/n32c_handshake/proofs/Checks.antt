@@ -1,5 +1,5 @@
 -- What the checks of a call come to, from the value that each of their parts gives.
-use Rattle.std.proofs.Common.{◌≡◌, ◌<◌, ℕ, ◌+◌, [], ◌∷◌, length, option_map, arith, Bool, true, false, List, map, drop, slice_get, find, Option, None, Some, Result, Ok, Err, refl, sym, ap, ◌∙◌}
+use Rattle.std.proofs.Common.{◌≡◌, ◌<◌, ℕ, ◌+◌, [], ◌∷◌, length, option_map, arith, Bool, true, false, List, map, drop, slice_get, find, Option, None, Some, Result, Ok, refl, ap, ◌∙◌}
 use Rattle.n32_values.proofs.Trees.{drop_at}
 use Rattle.spec_documents.specs.Chain.{◌>>=◌}
 use Rattle.spec_messages.specs.Message.{wanted, onto_read}

@@ -1,7 +1,9 @@
-use Rattle.std.proofs.Common.{◌≡◌, false, List, ℕ, Ok, Err}
+use Rattle.std.proofs.Common.{◌≡◌, false, List, Ok, Err, ap, sym}
 use Rattle.std.proofs.lemmas.Result.{err_from_is_err_and}
 use Rattle.std.proofs.lemmas.Bool.{false_from_ne_true}
 use Rattle.spec_records.specs.Records.{Record}
+use Rattle.spec_exchange.specs.Outside.{puts}
+use Rattle.context_records.specs.View.{record_view}
 use Rattle.spec_handshake.specs.Documents.{Terminates}
 use Rattle.spec_handshake.specs.Calls.{closes, put_closing}
 use Rattle.n32c_handshake.specs.Outcome.{IsClosing}
@@ -24,10 +26,23 @@ returns-in_err-document-clause-terminates g c =
     (record { told = e.same; holds = e.consistent e.fresh; few = e.few; fresh = e.fresh; same = λ f. (e.idle f).1 }) c.in_err-document.ensures)
 
 pub returns-in_err-keep-clause-terminates : goal.returns-in_err-keep-clause-terminates
-returns-in_err-keep-clause-terminates g c = let a = c.in_ok-document in let b = c.in_err-keep in ?
+returns-in_err-keep-clause-terminates g c =
+    let p = err_from_is_err_and c.from_residual-in_err-keep.result c.from_residual-in_err-keep.ensures.1 in
+    let e = c.in_ok-refresh.ensures in
+    let k = c.in_ok-document.ensures in
+    rw (p.1, p.2) (put IsClosing (λ (records : List Record). closes records c.args.node.now c.args.id.value Terminates) (put_closing c.args.node.now) (g.K.Keeper.held c.args.keeper.now) (g.K.Keeper.held c.refresh.new.keeper) (g.K.Keeper.held c.keep.new.keeper) c.args.store.now c.refresh.new.self c.keep.new.store c.in_ok-document.field-0.document k.0 (record_view c.in_ok-document.field-0.item) k.0 (Err c.in_err-keep.field-0.0)
+    (record { told = e.same; holds = e.consistent e.fresh; few = e.few; fresh = e.fresh; same = λ f. (e.idle f).1 }) k.1 (λ q. ap (λ (r : Record). puts q r k.0) (sym k.2.item)) k.2.document c.in_err-keep.ensures.keeps)
 
 pub returns-in_err-keep-clause-last : goal.returns-in_err-keep-clause-last
-returns-in_err-keep-clause-last g c = ?
+returns-in_err-keep-clause-last g c = λ is f.
+    let p = err_from_is_err_and c.from_residual-in_err-keep.result c.from_residual-in_err-keep.ensures.1 in
+    let k = c.in_ok-document.ensures in
+    passed_put (λ (records : List Record). closes records c.args.node.now c.args.id.value Terminates) (g.K.Keeper.held c.refresh.new.keeper) (g.K.Keeper.held c.keep.new.keeper) c.args.store.now c.refresh.new.self c.keep.new.store k.0 (record_view c.in_ok-document.field-0.item) (Err c.in_err-keep.field-0.0)
+    k.1 c.in_err-keep.ensures.keeps (cc (p.1, p.2, is)) (c.in_ok-refresh.ensures.idle f).1
 
 pub returns-clause-terminates : goal.returns-clause-terminates
-returns-clause-terminates g c = let a = c.in_ok-document in let b = c.keep in ?
+returns-clause-terminates g c =
+    let e = c.in_ok-refresh.ensures in
+    let k = c.in_ok-document.ensures in
+    put IsClosing (λ (records : List Record). closes records c.args.node.now c.args.id.value Terminates) (put_closing c.args.node.now) (g.K.Keeper.held c.args.keeper.now) (g.K.Keeper.held c.refresh.new.keeper) (g.K.Keeper.held c.keep.new.keeper) c.args.store.now c.refresh.new.self c.keep.new.store c.in_ok-document.field-0.document k.0 (record_view c.in_ok-document.field-0.item) k.0 (Ok c.in_ok-keep.field-0)
+    (record { told = e.same; holds = e.consistent e.fresh; few = e.few; fresh = e.fresh; same = λ f. (e.idle f).1 }) k.1 (λ q. ap (λ (r : Record). puts q r k.0) (sym k.2.item)) k.2.document c.in_ok-keep.ensures.keeps
