@@ -12,9 +12,9 @@ ghost use Rattle.n32c_handshake.specs.Outcome.{Comes, IsDocument, ChecksOut, IsB
 
 use crate::fault::{CheckFault, HandFault};
 use crate::hands::Hands;
-use crate::starts::{Start, Waiting};
 use crate::keeping::keep;
 use crate::offer::Offer;
+use crate::starts::{Start, Waiting};
 use crate::write::supports_doc;
 use context_records::Record;
 use context_store::Store;

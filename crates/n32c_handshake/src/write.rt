@@ -157,12 +157,7 @@ fn put_parameters(
     Ok(())
 }
 
-fn asks_node(
-    alloc: Global,
-    node: &Text,
-    plmn: &PlmnId,
-    offer: &Offer,
-) -> Result<Node, NoMemory>
+fn asks_node(alloc: Global, node: &Text, plmn: &PlmnId, offer: &Offer) -> Result<Node, NoMemory>
     ensures { IfOk result (λ n. tree_of n ≡ spec.document_tree (spec.Asks (ask_of node.now plmn.now (offer_view offer.now)))) }
 {
     let providers = providers_node(alloc, &offer.ipx)?;

@@ -2,8 +2,8 @@
 use crate::args::Args;
 use crate::given::Given;
 use crate::{
-    block_patches, blocks, changes, ciphers, differences, entries, handshakes, holes, jwes, messages, patches,
-    pointers, policies, records, reports, sealing, texts, values, wires,
+    block_patches, blocks, changes, ciphers, differences, entries, handshakes, holes, jwes,
+    messages, patches, pointers, policies, records, reports, sealing, texts, values, wires,
 };
 use n32_values::Node;
 use std::alloc::Global;

@@ -5,9 +5,11 @@ ghost use Rattle.spec_records.specs.RecordDocument.{are_ipx};
 use crate::args::Args;
 use crate::nodes::{fault_node, map_node, number_node, put_part, text_node};
 use context_records::words::read_ipx;
-use n32_values::{Doc, Hex64, Node, NodeList, NodeMap, PlmnId, Text, TextList, copy_doc, read_hex64, read_plmn};
-use n32c_handshake::{Capability, CapabilityList, HandFault, Offer, SuiteList};
 use jwe_flat::Suite;
+use n32_values::{
+    Doc, Hex64, Node, NodeList, NodeMap, PlmnId, Text, TextList, copy_doc, read_hex64, read_plmn,
+};
+use n32c_handshake::{Capability, CapabilityList, HandFault, Offer, SuiteList};
 use policy_documents::{PolicyMatch, read_policy};
 use std::alloc::Global;
 

@@ -59,11 +59,7 @@ fn opened_node(alloc: Global, id: Hex64) -> Option<Node> {
     }
 }
 
-fn made_node(
-    alloc: Global,
-    wires: &mut NodeList,
-    made: Result<Doc, HandFault>,
-) -> Option<Node> {
+fn made_node(alloc: Global, wires: &mut NodeList, made: Result<Doc, HandFault>) -> Option<Node> {
     match made {
         Ok(doc) => wire_node(alloc, wires, doc),
         Err(fault) => refusal_node(alloc, fault),

@@ -10,8 +10,9 @@ pub returns-in_ok-document-in-Prins-clause-checks : goal.returns-in_ok-document-
 returns-in_ok-document-in-Prins-clause-checks c =
     let start : Start = start_view c.start.result.now in
     let same : start ≡ start_view c.start-in-Prins.result.now = same_some _ _ (sym c.start.ensures.start ∙ c.start-in-Prins.ensures.start) in
-    let found = found_at (waits c.args.node.now c.args.call.value c.args.sender.now ForChoice) c.args.hands.now c.in-Some.at start c.in-Some.ensures.first c.start.ensures.start in
-    (Asks (ask_of c.args.node.now c.args.plmn.now start.offer),
-    chosen_at c.args.store.now.records c.args.hands.now c.args.node.now c.args.plmn.now c.args.call.value c.args.sender.now (capability_view c.args.capability) start found (sym c.has_capability.ensures ∙ c.if-not-has_capability.false)
-    ∙ ap (λ z. Ok (after_choice c.args.node.now c.args.plmn.now start.offer (capability_view z))) c.in-Prins.is,
-    c.in_ok-document-in-Prins.ensures ∙ ap (λ (s : Start). document_tree (Asks (ask_of c.args.node.now c.args.plmn.now s.offer))) (sym same))
+    let found = found_at (waits c.args.node.now c.args.call.value c.args.sender.now ForChoice) c.args.hands.now c.in-Some.at start c.in-Some.ensures.first c.start.ensures.start in (
+      Asks (ask_of c.args.node.now c.args.plmn.now start.offer),
+      chosen_at c.args.store.now.records c.args.hands.now c.args.node.now c.args.plmn.now c.args.call.value c.args.sender.now (capability_view c.args.capability) start found (sym c.has_capability.ensures ∙ c.if-not-has_capability.false)
+          ∙ ap (λ z. Ok (after_choice c.args.node.now c.args.plmn.now start.offer (capability_view z))) c.in-Prins.is,
+      c.in_ok-document-in-Prins.ensures ∙ ap (λ (s : Start). document_tree (Asks (ask_of c.args.node.now c.args.plmn.now s.offer))) (sym same),
+    )

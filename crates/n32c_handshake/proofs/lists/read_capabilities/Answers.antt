@@ -16,10 +16,11 @@ returns-in_err-word c =
 
 pub loop-i-preserved : goal.loop-i-preserved
 loop-i-preserved c = elim c.match-capability_of.branch [
-    in-Some+in_ok-push w ↦
-        let more : c.match-capability_of.capabilities ≡ c.loop-i.capabilities ++ w.in-Some.capability ∷ [] = w.capabilities-is ∙ w.in_ok-push.ensures.ok in
-        subst (λ z. with_front (map capability_view z) (known_words capability_of (drop (c.loop-i.i + 1) c.args.list.now)) ≡ known_words capability_of c.args.list.now) (sym more)
-        (known_at capability_view capability_of c.loop-i.capabilities c.args.list.now c.loop-i.i (tree_of c.item.result.now) c.in_ok-word.word.now (member_name c.args.member) w.in-Some.capability _ c.item.ensures c.in_ok-word.ensures c.loop-i.invariant (w.in-Some.ensures ∙ ap capability_of c.as_str.ensures))
-    | in_default w ↦
-        subst (λ z. with_front (map capability_view z) (known_words capability_of (drop (c.loop-i.i + 1) c.args.list.now)) ≡ known_words capability_of c.args.list.now) (sym w.capabilities-is)
-        (other_at capability_view capability_of c.loop-i.capabilities c.args.list.now c.loop-i.i (tree_of c.item.result.now) c.in_ok-word.word.now (member_name c.args.member) _ c.item.ensures c.in_ok-word.ensures c.loop-i.invariant (w.in_default.ensures ∙ ap capability_of c.as_str.ensures)) ]
+  | in-Some+in_ok-push w ↦
+      let more : c.match-capability_of.capabilities ≡ c.loop-i.capabilities ++ w.in-Some.capability ∷ [] = w.capabilities-is ∙ w.in_ok-push.ensures.ok in
+      subst (λ z. with_front (map capability_view z) (known_words capability_of (drop (c.loop-i.i + 1) c.args.list.now)) ≡ known_words capability_of c.args.list.now) (sym more)
+      (known_at capability_view capability_of c.loop-i.capabilities c.args.list.now c.loop-i.i (tree_of c.item.result.now) c.in_ok-word.word.now (member_name c.args.member) w.in-Some.capability _ c.item.ensures c.in_ok-word.ensures c.loop-i.invariant (w.in-Some.ensures ∙ ap capability_of c.as_str.ensures))
+  | in_default w ↦
+      subst (λ z. with_front (map capability_view z) (known_words capability_of (drop (c.loop-i.i + 1) c.args.list.now)) ≡ known_words capability_of c.args.list.now) (sym w.capabilities-is)
+      (other_at capability_view capability_of c.loop-i.capabilities c.args.list.now c.loop-i.i (tree_of c.item.result.now) c.in_ok-word.word.now (member_name c.args.member) _ c.item.ensures c.in_ok-word.ensures c.loop-i.invariant (w.in_default.ensures ∙ ap capability_of c.as_str.ensures))
+]

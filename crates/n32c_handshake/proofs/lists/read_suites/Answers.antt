@@ -16,10 +16,11 @@ returns-in_err-word c =
 
 pub loop-i-preserved : goal.loop-i-preserved
 loop-i-preserved c = elim c.match-suite_of.branch [
-    in-Some+in_ok-push w ↦
-        let more : c.match-suite_of.suites ≡ c.loop-i.suites ++ w.in-Some.suite ∷ [] = w.suites-is ∙ w.in_ok-push.ensures.ok in
-        subst (λ z. with_front (map suite_view z) (known_words suite_of (drop (c.loop-i.i + 1) c.args.list.now)) ≡ known_words suite_of c.args.list.now) (sym more)
-        (known_at suite_view suite_of c.loop-i.suites c.args.list.now c.loop-i.i (tree_of c.item.result.now) c.in_ok-word.word.now (member_name c.args.member) w.in-Some.suite _ c.item.ensures c.in_ok-word.ensures c.loop-i.invariant (w.in-Some.ensures ∙ ap suite_of c.as_str.ensures))
-    | in_default w ↦
-        subst (λ z. with_front (map suite_view z) (known_words suite_of (drop (c.loop-i.i + 1) c.args.list.now)) ≡ known_words suite_of c.args.list.now) (sym w.suites-is)
-        (other_at suite_view suite_of c.loop-i.suites c.args.list.now c.loop-i.i (tree_of c.item.result.now) c.in_ok-word.word.now (member_name c.args.member) _ c.item.ensures c.in_ok-word.ensures c.loop-i.invariant (w.in_default.ensures ∙ ap suite_of c.as_str.ensures)) ]
+  | in-Some+in_ok-push w ↦
+      let more : c.match-suite_of.suites ≡ c.loop-i.suites ++ w.in-Some.suite ∷ [] = w.suites-is ∙ w.in_ok-push.ensures.ok in
+      subst (λ z. with_front (map suite_view z) (known_words suite_of (drop (c.loop-i.i + 1) c.args.list.now)) ≡ known_words suite_of c.args.list.now) (sym more)
+      (known_at suite_view suite_of c.loop-i.suites c.args.list.now c.loop-i.i (tree_of c.item.result.now) c.in_ok-word.word.now (member_name c.args.member) w.in-Some.suite _ c.item.ensures c.in_ok-word.ensures c.loop-i.invariant (w.in-Some.ensures ∙ ap suite_of c.as_str.ensures))
+  | in_default w ↦
+      subst (λ z. with_front (map suite_view z) (known_words suite_of (drop (c.loop-i.i + 1) c.args.list.now)) ≡ known_words suite_of c.args.list.now) (sym w.suites-is)
+      (other_at suite_view suite_of c.loop-i.suites c.args.list.now c.loop-i.i (tree_of c.item.result.now) c.in_ok-word.word.now (member_name c.args.member) _ c.item.ensures c.in_ok-word.ensures c.loop-i.invariant (w.in_default.ensures ∙ ap suite_of c.as_str.ensures))
+]
