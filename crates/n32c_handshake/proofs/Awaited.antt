@@ -1,12 +1,12 @@
 -- What a reply comes to, from the start that waits for it.
-use Rattle.std.proofs.Common.{◌≡◌, ℕ, zero, suc, ◌<◌, Bool, true, false, not, List, [], ◌∷◌, length, slice_get, find, Option, None, Some, Result, Ok, Err, refl, sym, ap, ◌∙◌, arith, bytes_eq, if◌then◌else◌}
+use Rattle.std.proofs.Common.{◌≡◌, ℕ, zero, suc, ◌<◌, Bool, true, false, not, List, [], ◌∷◌, length, slice_get, find, Option, None, Some, Result, Ok, Err, refl, sym, ap, ◌∙◌, arith, bytes_eq}
 use Rattle.std.proofs.lemmas.Bool.{and_parts}
 use Rattle.std.proofs.lemmas.Slice.Eq.{bytes_eq-Decides}
 use Rattle.spec_documents.specs.Chain.{◌>>=◌, unless, none_of}
 use Rattle.spec_documents.specs.Gives.{Tells}
 use Rattle.spec_messages.specs.Message.{wanted}
 use Rattle.spec_records.specs.Records.{Record}
-use Rattle.spec_handshake.specs.Documents.{Capability, Selection, Document, Chooses, Selects}
+use Rattle.spec_handshake.specs.Documents.{Capability, Selection, Chooses, Selects}
 use Rattle.spec_handshake.specs.Differences.{Difference, difference}
 use Rattle.spec_handshake.specs.Refusals.{Refusal, NotExpected, NoCommonCapability, NoCommonSuite, PolicyDiffers, ends_start}
 use Rattle.spec_handshake.specs.Starts.{Start, Waiting, ForChoice, ForSelection, waits, without_first}

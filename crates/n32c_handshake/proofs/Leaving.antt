@@ -1,9 +1,9 @@
 -- What a finish comes to, and the starts that it leaves, from what its parts come to.
-use Rattle.std.proofs.Common.{◌≡◌, ⊎_elim, ℕ, ◌<◌, ◌≤◌, Bool, List, [], length, IfSome, true, false, Option, None, Some, Result, Ok, Err, refl, sym, ap, subst, ◌∙◌}
+use Rattle.std.proofs.Common.{◌≡◌, ⊎_elim, ℕ, Bool, List, [], IfSome, false, Option, None, Some, Result, Ok, Err, refl, sym, ap, subst, ◌∙◌}
 use Rattle.std.specs.List.{remove}
 use Rattle.spec_documents.specs.Tree.{Tree}
 use Rattle.spec_documents.specs.Gives.{Tells}
-use Rattle.spec_records.specs.Records.{Record, Context, Opened}
+use Rattle.spec_records.specs.Records.{Context, Opened}
 use Rattle.spec_messages.specs.Limits.{many_records}
 use Rattle.spec_exchange.specs.Outside.{Read, ReadFails, BadRecord, Putting, Kept, Lost, KeptUntold, Own, puts, or_refusal}
 use Rattle.spec_handshake.specs.Documents.{document_of}

@@ -1,5 +1,5 @@
 -- What a reply and a beginning come to, once each of their checks is known.
-use Rattle.std.proofs.Common.{◌≡◌, ℕ, Bool, true, false, List, Option, None, Some, Result, Ok, Err, refl, ap}
+use Rattle.std.proofs.Common.{◌≡◌, ℕ, Bool, true, false, List, Option, None, Some, Result, Ok, refl, ap}
 use Rattle.spec_documents.specs.Chain.{◌>>=◌, unless, none_of, or_refused}
 use Rattle.spec_documents.specs.Tree.{Tree}
 use Rattle.spec_messages.specs.Message.{wanted}

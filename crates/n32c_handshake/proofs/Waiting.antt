@@ -1,9 +1,9 @@
 -- The starts that wait: the first that passes, those that stay, and what all pass.
-use Rattle.std.proofs.Common.{◌≡◌, ℕ, suc, zero, ◌+◌, ◌<◌, ◌≤◌, Bool, true, false, ◌&&◌, List, [], ◌∷◌, ◌++◌, length, map, take, drop, Option, None, Some, slice_get, slice_set, find, filter, refl, sym, ap, ◌∙◌, add-one, IsTrue, if◌then◌else◌, arith, get_or, subst, IfSome}
+use Rattle.std.proofs.Common.{◌≡◌, ℕ, suc, zero, ◌+◌, ◌<◌, Bool, true, false, List, [], ◌∷◌, ◌++◌, length, map, take, drop, Option, None, Some, slice_get, slice_set, find, filter, refl, sym, ap, ◌∙◌, add-one, IsTrue, arith, get_or, subst, IfSome}
 use Rattle.std.specs.List.{remove, list_all}
 use Rattle.std.proofs.lemmas.Bool.{and_parts, and_from}
 use Rattle.std.proofs.lemmas.List.{length-map}
-use Rattle.spec_handshake.specs.Starts.{Start, goes_on, first_goes_on, without_first}
+use Rattle.spec_handshake.specs.Starts.{Start}
 use Rattle.n32c_handshake.specs.Waiting.{IsFirst}
 
 -- ---- the first that passes

@@ -1,6 +1,4 @@
-use Rattle.std.proofs.Common.{sym, subst, ◌∙◌}
-use Rattle.spec_documents.specs.Gives.{Gives}
-use Rattle.n32c_handshake.specs.Faults.{told}
+use Rattle.std.proofs.Common.{sym, ◌∙◌}
 use Rattle.n32c_handshake.specs.View.{selection_view, start_view}
 use Rattle.n32c_handshake.proofs.Awaited.{suite_refused, suite_taken}
 use Rattle.n32c_handshake.proofs.finishing.accepts.Goals as goal

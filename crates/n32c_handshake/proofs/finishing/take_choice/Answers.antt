@@ -1,4 +1,4 @@
-use Rattle.std.proofs.Common.{◌≡◌, sym, ap, ◌∙◌, true, Ok, find, Some}
+use Rattle.std.proofs.Common.{◌≡◌, sym, ap, ◌∙◌, Ok}
 use Rattle.spec_handshake.specs.Documents.{Asks, document_tree}
 use Rattle.spec_handshake.specs.Starts.{Start, ForChoice, waits}
 use Rattle.spec_handshake.specs.Calls.{ask_of, after_choice}

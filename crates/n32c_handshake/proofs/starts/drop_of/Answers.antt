@@ -1,5 +1,4 @@
-use Rattle.std.proofs.Common.{◌≡◌, ◌≤◌, ◌<◌, ◌+◌, length, sym, ap, not, bytes_eq, map, false, true, ◌∙◌, vec_len, arith}
-use Rattle.spec_handshake.specs.Starts.{Start}
+use Rattle.std.proofs.Common.{◌<◌, length, sym, ap, not, bytes_eq, ◌∙◌, arith}
 use Rattle.n32c_handshake.specs.View.{start_view}
 use Rattle.n32c_handshake.proofs.Waiting.{gone_at, stays_at, seen_at}
 use Rattle.n32c_handshake.proofs.starts.drop_of.Goals as goal

@@ -1,5 +1,4 @@
-use Rattle.std.proofs.Common.{◌≡◌, ◌<◌, length, sym, ap, subst, map, take, IsTrue, ◌∙◌, slice_get, slice_set, Some, not, bytes_eq}
-use Rattle.std.specs.List.{list_all, remove}
+use Rattle.std.proofs.Common.{map}
 use Rattle.n32c_handshake.specs.View.{start_view}
 use Rattle.n32c_handshake.specs.Waiting.{is_named}
 use Rattle.n32c_handshake.proofs.Waiting.{seen_at, seen_within, all_at}

@@ -1,5 +1,5 @@
-use Rattle.std.proofs.Common.{◌≡◌, ◌<◌, length, sym, ap, subst, map, take, IsTrue, ◌∙◌, slice_get, slice_set, Some, not, bytes_eq}
-use Rattle.std.specs.List.{list_all, remove}
+use Rattle.std.proofs.Common.{sym, ap, subst, map, take, IsTrue, ◌∙◌}
+use Rattle.std.specs.List.{list_all}
 use Rattle.n32c_handshake.specs.View.{start_view}
 use Rattle.n32c_handshake.specs.Waiting.{is_named}
 use Rattle.n32c_handshake.proofs.Waiting.{seen_taken, all_taken}
