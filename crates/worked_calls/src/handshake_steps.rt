@@ -2,7 +2,7 @@
 ghost use Rattle.std.specs.Prelude.{IfSome, IsTrue};
 ghost use Rattle.spec_records.specs.RecordDocument.{are_ipx};
 
-use crate::args::Args;
+use crate::args::number_of;
 use crate::nodes::{fault_node, map_node, number_node, put_part, text_node};
 use context_records::words::read_ipx;
 use jwe_flat::Suite;
@@ -49,9 +49,9 @@ fn id_of(node: Option<&Node>) -> Option<Hex64> {
 
 // The document of that number.
 fn wire_of<'a>(wires: &'a NodeList, node: &Node) -> Option<&'a Node> {
-    match node {
-        Node::Whole(number) => wires.get(number.value() as usize),
-        _ => None,
+    match number_of(node) {
+        Some(number) => wires.get(number as usize),
+        None => None,
     }
 }
 
@@ -127,7 +127,6 @@ fn suites_in(alloc: Global, map: &NodeMap) -> SuiteList {
 }
 
 // The intermediaries of an offer, in their form.
-#[tactic(auto, using(spec_records::proofs::NameLemmas::ipx_named))]
 fn ipx_in(alloc: Global, map: &NodeMap) -> Option<TextList>
     ensures { IfSome result (λ ipx. IsTrue (are_ipx ipx)) }
 {

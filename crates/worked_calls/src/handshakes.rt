@@ -1,13 +1,13 @@
 // The calls of `n32c_handshake`, as scenarios. A row lists `steps` of nodes, which are played one after the other over
 // one keeper in memory, whose calls `fails` fail, one store, and the starts that wait. A document that a step makes goes
 // last in a list, and a later step takes it by its number `wire`.
-ghost use Rattle.std.specs.Prelude.{Some, IsTrue};
+ghost use Rattle.std.specs.Prelude.{◌≡◌, false, Some, IsTrue};
 ghost use Rattle.spec_documents.specs.Text.{is_node_name};
 ghost use Rattle.spec_records.specs.RecordDocument.{are_ipx};
 ghost use Rattle.context_store.specs.Stores.{IsConsistent};
 ghost use Rattle.n32_outside.specs.MemoryViews.{keeper_held};
 
-use crate::args::Args;
+use crate::args::{Args, number_of};
 use crate::handshake_steps::{Step, offer_in, read_step, refusal_node};
 use crate::nodes::{count_node, member_node, pair_node, text_node};
 use crate::values::words_of;
@@ -338,9 +338,9 @@ fn play_all(
 
 fn fail_item(node: &Node) -> Option<FailItem> {
     match node {
-        Node::Members(map) => match (map.get("call"), map.get("keeps")) {
-            (Some(Node::Whole(call)), Some(Node::Truth(keeps))) => Some(FailItem {
-                call: call.value() as u64,
+        Node::Members(map) => match (number_of(map.get("call")?), map.get("keeps")) {
+            (Some(call), Some(Node::Truth(keeps))) => Some(FailItem {
+                call: u64::from(call),
                 keeps: *keeps,
             }),
             _ => None,
