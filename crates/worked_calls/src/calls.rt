@@ -2,8 +2,9 @@
 use crate::args::Args;
 use crate::given::Given;
 use crate::{
-    block_patches, blocks, changes, ciphers, differences, entries, entry_chains, exercises, holes,
-    jwes, messages, patches, pointers, policies, records, reports, sealing, texts, values, wires,
+    block_patches, blocks, changes, ciphers, differences, entries, entry_chains, exercises,
+    handshakes, holes, jwes, messages, patches, pointers, policies, records, reports, sealing,
+    texts, values, wires,
 };
 use n32_values::Node;
 use std::alloc::Global;
@@ -144,6 +145,16 @@ fn exercise_call(alloc: Global, name: &str, args: Args<'_>) -> Option<Node> {
         "exercise_line" => exercises::exercise_line_call(alloc, args),
         "script_summary" => exercises::script_summary_call(alloc, args),
         "exercise_summary" => exercises::exercise_summary_call(alloc, args),
+        _ => handshake_call(alloc, name, args),
+    }
+}
+
+// Handshakes.
+fn handshake_call(alloc: Global, name: &str, args: Args<'_>) -> Option<Node> {
+    match name {
+        "handshake" => handshakes::handshake_call(alloc, args),
+        "handshake_wires" => handshakes::handshake_wires_call(alloc, args),
+        "handshake_record" => handshakes::handshake_record_call(alloc, args),
         _ => None,
     }
 }

@@ -19,6 +19,8 @@ mod entries;
 mod entry_chains;
 mod exercises;
 mod given;
+mod handshake_steps;
+mod handshakes;
 mod holes;
 mod jwes;
 mod keys;
