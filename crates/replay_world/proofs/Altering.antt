@@ -1,5 +1,5 @@
 -- Operations in order: the first that is applied, and those that are left.
-use Rattle.std.proofs.Common.{◌≡◌, ◌+◌, ◌<◌, ℕ, zero, suc, List, [], ◌∷◌, map, drop, length, Option, Ok, refl, sym, ap, subst, ◌∙◌, get_or, arith}
+use Rattle.std.proofs.Common.{◌≡◌, ◌+◌, ◌<◌, ℕ, zero, suc, List, [], ◌∷◌, map, drop, length, Option, Ok, sym, ap, subst, ◌∙◌, get_or, arith}
 use Rattle.spec_documents.specs.Gives.{Tells}
 use Rattle.spec_documents.specs.Tree.{Tree}
 use Rattle.spec_documents.proofs.Chains.{bind_at, tells_on}

@@ -1,5 +1,5 @@
 -- A delivery that is refused: told with its report, or, where memory was refused for that, not told.
-use Rattle.std.proofs.Common.{◌≡◌, ◌≤◌, ⊎_elim, ℕ, List, Option, Result, Ok, Err, refl, sym, subst, Some}
+use Rattle.std.proofs.Common.{◌≡◌, ◌≤◌, ⊎_elim, ℕ, List, Option, Err, sym, subst}
 use Rattle.n32_outside.specs.Causes.{Rose}
 use Rattle.spec_documents.specs.Tree.{Tree}
 use Rattle.spec_records.specs.Records.{Record}
@@ -10,8 +10,7 @@ use Rattle.receiving_sepp.specs.Outcome as received
 use Rattle.receiving_sepp.specs.declared.faults.AcceptFault.{AcceptFault}
 use Rattle.receiving_sepp.specs.declared.faults.AcceptFault.TheVariants as accepting
 use Rattle.script_lines.specs.declared.unanswered.Unanswered.{Unanswered}
-use Rattle.script_lines.specs.declared.unanswered.Unanswered.TheVariants as unanswered
-use Rattle.replay_world.specs.Refusing.{of_receiving, Undelivers}
+use Rattle.replay_world.specs.Refusing.{Undelivers}
 use Rattle.replay_world.specs.Worlds.{IsReady, state_of}
 use Rattle.replay_world.specs.Handling.{Handles}
 use Rattle.replay_world.specs.declared.world.World.{World}

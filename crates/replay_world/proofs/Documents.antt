@@ -1,5 +1,5 @@
 -- What sending and delivering leave of a world.
-use Rattle.std.proofs.Common.{◌≡◌, ◌+◌, ℕ, List, [], ◌∷◌, ◌++◌, length, true, false, is_some, Option, Some, None, Result, Ok, Err, refl, sym, ap, ap₂, subst, ◌∙◌, inr}
+use Rattle.std.proofs.Common.{◌≡◌, ◌+◌, ℕ, List, [], ◌∷◌, ◌++◌, length, true, false, is_some, Option, Result, Ok, Err, refl, sym, ap, ap₂, subst, ◌∙◌, inr}
 use Rattle.spec_documents.specs.Tree.{Tree}
 use Rattle.spec_messages.specs.Message.{Message}
 use Rattle.spec_records.specs.Records.{Record}
@@ -36,7 +36,6 @@ use Rattle.replay_world.specs.Stepping.{Makes, HasPut, GivesUp, Tells, Comes}
 use Rattle.replay_world.specs.Outsiders.{unsigned}
 use Rattle.replay_world.specs.Wires.{HasMore}
 use Rattle.replay_world.specs.declared.world.World.{World}
-use Rattle.script_lines.specs.declared.unanswered.Unanswered.{Unanswered}
 use Rattle.script_lines.specs.declared.unanswered.Unanswered.TheVariants as unanswered
 use Rattle.replay_world.proofs.Parts.{Idles, stays_itself, by_call, gives_up_idly}
 use Rattle.replay_world.proofs.EventSteps.{given_goes_on, report_told}

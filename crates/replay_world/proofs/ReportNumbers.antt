@@ -1,5 +1,5 @@
 -- Numbers of refusals fit into 16 bits.
-use Rattle.std.proofs.Common.{◌≡◌, ◌%◌, ◌^◌, refl}
+use Rattle.std.proofs.Common.{◌≡◌, ◌%◌, refl}
 use Rattle.receiving_sepp.specs.Views.{refused_view}
 use Rattle.receiving_sepp.specs.declared.refused.Refused.{Refused}
 use Rattle.spec_exchange.specs.ReceivingRefusals.{Refusal, Form, NotBuilt, NoContext, NoReceiveKeys, Cipher, Integrity, Replay, Reconstruction, InClear, NoRoom, telling}

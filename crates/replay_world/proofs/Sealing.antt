@@ -1,14 +1,13 @@
 -- Requests to send, and the documents that they are sealed to.
-use Rattle.std.proofs.Common.{◌≡◌, ℕ, List, [], ◌∷◌, ◌++◌, is_some, codes, Option, Some, None, Result, Ok, Err, refl, sym, ap, subst, ◌∙◌, arith}
-use Rattle.std.specs.List.{AllByRecursion}
+use Rattle.std.proofs.Common.{◌≡◌, ℕ, List, Option, Result, Ok, Err, refl, sym, ap, subst, arith}
 use Rattle.spec_documents.specs.Tree.{Tree, depth}
-use Rattle.spec_messages.specs.Message.{Message, Kind, of_request, of_response, kind_of}
+use Rattle.spec_messages.specs.Message.{Message}
 use Rattle.spec_documents.specs.Compact.{compact_text}
 use Rattle.spec_messages.specs.Policy.{values}
 use Rattle.spec_messages.specs.Block.{Block, block_tree}
 use Rattle.spec_records.specs.Records.{OneKey, Context, Record}
 use Rattle.context_store.specs.Stores.{Stored}
-use Rattle.spec_exchange.specs.Chain.{◌>>=◌, unless}
+use Rattle.spec_exchange.specs.Chain.{◌>>=◌}
 use Rattle.spec_exchange.specs.SendingRefusals as sending
 use Rattle.spec_sealing.specs.Suites.{content_key}
 use Rattle.spec_sealing.specs.Jwe.{Jwe, sealed}
@@ -16,14 +15,8 @@ use Rattle.spec_sealing.specs.Plaintext.{plaintext}
 use Rattle.spec_sealing.specs.Received.{carrier}
 use Rattle.spec_records.specs.Keys.{nonce, send_key}
 use Rattle.spec_exchange.specs.Outside.{Reading, Read, ReadFails, BadRecord, Putting, Kept, Lost, KeptUntold, puts, behind_reading, or_refusal}
-use Rattle.spec_exchange.specs.Calls.{Sealed, Outgoing, Asks, protected, sent_record, sealed_document, sent_block_of, message_id, kind_of_outgoing}
-use Rattle.spec_script.specs.Messages.{message_in}
+use Rattle.spec_exchange.specs.Calls.{Sealed, Outgoing, protected, sent_record, sealed_document, sent_block_of, message_id, kind_of_outgoing}
 use Rattle.sending_sepp.specs.Outcome as sent
-use Rattle.script_lines.specs.View.{refusal_view}
-use Rattle.script_lines.specs.declared.unanswered.Unanswered.{Unanswered}
-use Rattle.script_lines.specs.declared.unanswered.Unanswered.TheVariants as unanswered
-use Rattle.spec_documents.specs.Gives.{Tells}
-use Rattle.script_lines.specs.Unanswered.{told_refusal}
 use Rattle.replay_world.specs.Worlds.{IsShallow}
 
 -- ---- what is sealed is shallow

@@ -1,5 +1,5 @@
 -- The signing that an event goes by.
-use Rattle.std.proofs.Common.{◌≡◌, ℕ, List, [], Option, Some, None, Result, Ok, Err, refl, sym, ap, ◌∙◌}
+use Rattle.std.proofs.Common.{◌≡◌, ℕ, List, [], Option, Some, None, Result, Ok, Err, refl, sym}
 use Rattle.std.specs.Prelude.{IsOk}
 use Rattle.n32_outside.specs.Causes.{Rose}
 use Rattle.n32_outside.specs.declared.algorithm.JwsAlg.{JwsAlg}
@@ -12,10 +12,8 @@ use Rattle.replay_world.specs.Refusing.{of_passing}
 use Rattle.prins_document.specs.View.{part_name}
 use Rattle.prins_document.specs.declared.document.WireMember.{WireMember}
 use Rattle.spec_documents.specs.Tree.{Tree}
-use Rattle.spec_records.specs.Records.{Record}
 use Rattle.spec_sealing.specs.Received.{Received}
 use Rattle.spec_sealing.specs.Passing.{with_room, passed}
-use Rattle.spec_exchange.specs.Outside.{Choice}
 use Rattle.spec_script.specs.Choices.{Signer, Signing, Signs, SignerFails}
 use Rattle.spec_script.specs.Events.{Pass}
 use Rattle.spec_script.specs.Steps.{wire_at, is_full, step}
@@ -23,7 +21,7 @@ use Rattle.script_lines.specs.AnswerTexts as texts
 use Rattle.script_lines.specs.declared.refusal.Refusal.TheVariants as refusals
 use Rattle.script_lines.specs.declared.unanswered.Unanswered.{Unanswered}
 use Rattle.script_lines.specs.declared.unanswered.Unanswered.TheVariants as unanswered
-use Rattle.std.proofs.Common.{◌+◌, ◌≤◌, max, arith, ℤ, length, true, false}
+use Rattle.std.proofs.Common.{◌+◌, ◌≤◌, max, arith, ℤ, length, false}
 use Rattle.replay_world.specs.Outsiders.{OfSigner, IsMeant, Signed, by}
 use Rattle.replay_world.specs.Worlds.{IsShallow, IsSound, state_of}
 use Rattle.replay_world.specs.Wires.{HasMore}

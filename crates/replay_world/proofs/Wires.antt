@@ -1,11 +1,11 @@
 -- Documents on the wire, and their bytes.
-use Rattle.std.proofs.Common.{◌≡◌, ◌+◌, ℕ, zero, suc, ℤ, pos, negsuc, List, [], ◌∷◌, ◌++◌, length, Some, refl, subst, arith}
+use Rattle.std.proofs.Common.{◌≡◌, ◌+◌, ℕ, zero, suc, ℤ, pos, negsuc, List, [], ◌∷◌, ◌++◌, length, Some, subst, arith}
 use Rattle.std.specs.Prelude.{slice_get}
 use Rattle.std.specs.List.{AllByRecursion}
 use Rattle.spec_documents.specs.Tree.{Tree}
 use Rattle.spec_documents.specs.Compact.{compact_text}
 use Rattle.spec_script.specs.Steps.{wire_bytes, wire_at}
-use Rattle.replay_world.specs.Worlds.{IsShallow, IsSound, sites_view, AreDistinct}
+use Rattle.replay_world.specs.Worlds.{IsShallow, IsSound}
 use Rattle.replay_world.specs.Wires.{HasMore}
 use Rattle.replay_world.specs.declared.world.World.{World}
 

@@ -1,5 +1,5 @@
 -- What a step leaves of a world and its keeper, for the steps of lines and for their parts.
-use Rattle.std.specs.Prelude.{◌≡◌, ◌⊎◌, ℕ, ◌≤◌, List, length, Bool, true, false, Option, None, IfSome, Result, Ok, Err}
+use Rattle.std.specs.Prelude.{◌≡◌, ◌⊎◌, ℕ, ◌≤◌, List, length, Bool, true, false, Option, IfSome, Result, Ok, Err}
 use Rattle.spec_documents.specs.Tree.{Tree}
 use Rattle.spec_records.specs.Records.{Record, record_limit}
 use Rattle.n32_outside.specs.Contents.{Stays}

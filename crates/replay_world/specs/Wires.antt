@@ -1,5 +1,5 @@
 -- What putting a document on the wire leaves of a world.
-use Rattle.std.specs.Prelude.{◌≡◌, List, [], ◌∷◌, ◌++◌, Result, Ok, Err}
+use Rattle.std.specs.Prelude.{◌≡◌, [], ◌∷◌, ◌++◌, Result, Ok, Err}
 use Rattle.spec_documents.specs.Tree.{Tree}
 use Rattle.spec_script.specs.Steps.{wire_bytes}
 use Rattle.replay_world.specs.declared.world.World.{World}

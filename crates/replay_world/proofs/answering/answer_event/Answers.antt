@@ -1,8 +1,3 @@
-use Rattle.std.proofs.Common.{refl, map, option_map}
-use Rattle.n32_values.specs.View.{tree_of}
-use Rattle.json_patch6902.specs.View.{op_view}
-use Rattle.context_records.specs.View.{key_set_view}
-use Rattle.script_lines.specs.View.{handed_view}
 use Rattle.replay_world.proofs.Signing.{signed_any, signed_on}
 use Rattle.replay_world.proofs.answering.answer_event.Goals as goal
 

@@ -1,15 +1,13 @@
-use Rattle.std.proofs.Common.{◌≡◌, is_some, true, false, refl, ap, ◌∙◌, Err}
+use Rattle.std.proofs.Common.{◌≡◌, is_some, true, false, refl, ◌∙◌}
 use Rattle.context_records.specs.View.{key_set_view}
 use Rattle.spec_script.specs.Events.{AddKeys}
 use Rattle.replay_world.specs.Handing.{keys_new}
 use Rattle.replay_world.proofs.EventSteps.{unknown_keys, takes_keys, keys_rest, keys_read}
 use Rattle.spec_script.specs.Steps as spec
 use Rattle.script_lines.specs.declared.refusal.Refusal.TheVariants as refusals
-use Rattle.script_lines.specs.declared.unanswered.Unanswered.{Unanswered}
-use Rattle.script_lines.specs.declared.unanswered.Unanswered.TheVariants as unanswered
 use Rattle.replay_world.specs.Outsiders.{unsigned}
 use Rattle.replay_world.specs.Worlds.{sites_view, state_of}
-use Rattle.replay_world.proofs.Handling.{alone_refused, alone_unfit, handles_read, unread_keeper}
+use Rattle.replay_world.proofs.Handling.{alone_refused, handles_read, unread_keeper}
 use Rattle.replay_world.proofs.Recording.{comes_unread}
 use Rattle.replay_world.proofs.handing_in.hand_in_keys.Goals as goal
 

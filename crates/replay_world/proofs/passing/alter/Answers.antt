@@ -1,4 +1,4 @@
-use Rattle.std.proofs.Common.{◌≡◌, true, false, refl, sym, ap, map, Some, None, Err}
+use Rattle.std.proofs.Common.{◌≡◌, true, false, sym, ap, map, Some, None, Err}
 use Rattle.json_patch6902.specs.View.{op_view}
 use Rattle.spec_script.specs.Steps as spec
 use Rattle.spec_script.specs.Events.{Alter}

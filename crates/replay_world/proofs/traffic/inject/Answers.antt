@@ -1,4 +1,4 @@
-use Rattle.std.proofs.Common.{◌≡◌, true, false, refl}
+use Rattle.std.proofs.Common.{◌≡◌, true, false}
 use Rattle.n32_values.specs.View.{tree_of}
 use Rattle.spec_script.specs.Steps as spec
 use Rattle.spec_script.specs.Events.{Inject}

@@ -1,4 +1,4 @@
-use Rattle.std.proofs.Common.{◌≡◌, is_some, true, false, refl, ap, option_map, Err}
+use Rattle.std.proofs.Common.{◌≡◌, is_some, true, false, ap, option_map, Err}
 use Rattle.n32_values.specs.View.{tree_of}
 use Rattle.http_message.specs.Reading.{message_view}
 use Rattle.spec_exchange.specs.Calls.{sends}
