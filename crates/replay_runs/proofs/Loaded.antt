@@ -1,5 +1,5 @@
 -- From the run over loaded records to the whole run: the keeper's faults are counted from before the load, and the load may end the run.
-use Rattle.std.proofs.Common.{◌≡◌, ◌≢◌, ⊎_elim, ◌<◌, ◌≤◌, ◌+◌, ◌-◌, ℕ, zero, suc, List, [], ◌∷◌, ◌++◌, length, take, drop, slice_get, refl, ap, sym, subst, ◌∙◌, arith, append-nil, append_assoc, inl, inr, None, Some, IfSome}
+use Rattle.std.proofs.Common.{◌≡◌, ⊎_elim, ◌<◌, ◌+◌, ◌-◌, ℕ, zero, suc, List, [], ◌∷◌, ◌++◌, length, take, drop, slice_get, refl, ap, sym, subst, ◌∙◌, arith, append-nil, append_assoc, inl, inr, None, Some, IfSome}
 use Rattle.std.specs.Prelude.{Option}
 use Rattle.std.specs.Io.KnownBytes.{Appends}
 use Rattle.std.proofs.KnownBytes.{Appends-nil}
@@ -23,9 +23,8 @@ use Rattle.spec_script.specs.Choices.{Meanings}
 use Rattle.replay_runs.specs.Outsiders.{Counts, Later}
 use Rattle.replay_world.specs.Worlds.{TellsRecords}
 use Rattle.replay_runs.specs.Unfailing.{plain_answers, plain_state}
-use Rattle.replay_runs.specs.Replays.{OutsideAnswers, RepliesToAll, RepliesToFirst, CutsReply, LacksMemory, RepliesInPart, Leaves, WritesFront, OverRecords, AreHeld, IsComplete}
-use Rattle.replay_runs.specs.Loads.{IsRefused, NamesBad, AtLoad, Untouched}
-use Rattle.replay_runs.specs.Lines.{IsOfLines}
+use Rattle.replay_runs.specs.Replays.{OutsideAnswers, RepliesToAll, RepliesToFirst, CutsReply, LacksMemory, RepliesInPart, Leaves, WritesFront, OverRecords, AreHeld}
+use Rattle.replay_runs.specs.Loads.{IsRefused, Untouched}
 use Rattle.replay_runs.specs.declared.status.Status.{Status}
 use Rattle.replay_runs.specs.declared.status.Status.TheVariants as status
 use Rattle.replay_runs.proofs.Plain.{answered_then, into_spoken, text-append, plain_answered}

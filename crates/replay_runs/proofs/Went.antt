@@ -8,7 +8,7 @@ use Rattle.spec_records.specs.Records.{Record, record_limit}
 use Rattle.n32_outside.specs.declared.algorithm.JwsAlg.{JwsAlg}
 use Rattle.jws_flat.specs.View.{alg_view}
 use Rattle.spec_exchange.specs.Outside.{with_put}
-use Rattle.spec_script.specs.Choices.{Signer, Signing, Signs, SignerFails, Meanings, SignsBy}
+use Rattle.spec_script.specs.Choices.{Signing, Signs, SignerFails, Meanings, SignsBy}
 use Rattle.replay_world.specs.Outsiders.{OfSigner, Told, SignerStays, IsMeant}
 use Rattle.replay_runs.specs.Outsiders.{Counts, counts_of, Later, meanings_told, meanings_of}
 use Rattle.spec_exchange.specs.Outside as outside

@@ -1,5 +1,5 @@
 -- What the machine of `replay`, which was lent a world, a keeper and a signer, gives and keeps from line to line, and the statuses that its lines may come to.
-use Rattle.std.specs.Prelude.{◌≡◌, ⊤, ℕ, ◌≤◌, List, Option, refl}
+use Rattle.std.specs.Prelude.{◌≡◌, ⊤, ℕ, ◌≤◌, List, refl}
 use Rattle.std.proofs.Common.{◌∙◌}
 use Rattle.std.proofs.Math.Nat.{le_refl, le_trans}
 use Rattle.replay_world.specs.declared.world.World.{World}

@@ -1,5 +1,5 @@
 -- What stays the same of keeper and signer in a run, and how often they failed.
-use Rattle.std.specs.Prelude.{◌≡◌, ℕ, ◌≤◌, List, Option, Some, None}
+use Rattle.std.specs.Prelude.{ℕ, ◌≤◌, List, Option, Some, None}
 use Rattle.n32_outside.specs.declared.algorithm.JwsAlg.{JwsAlg}
 use Rattle.jws_flat.specs.View.{alg_view}
 use Rattle.spec_script.specs.Choices.{Meanings}
