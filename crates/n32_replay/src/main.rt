@@ -1,16 +1,18 @@
 //! `n32_replay`: reads a script on standard input, line by line, and writes one answer line for each line.
 //!
 //! `n32_replay blocks` answers each request with its integrity-protected block under the empty policy. `n32_replay replay [FILE]`
-//! answers the events of a script, over records in memory or in the journal FILE.
+//! answers the events of a script, over records in memory or in the journal FILE. The intermediaries of a script sign by HMAC,
+//! each with a key made from the root `n32-demo` and its identity.
 #![tactic(auto)]
 
 ghost use Rattle.std.specs.Prelude.{◌≡◌, ◌⊎◌, ◌↔◌, None, IfErr};
 ghost use Rattle.n32_outside.specs.Causes.{Rose};
 ghost use Rattle.replay_runs.specs.Commands.{command_of};
 
+use jws_flat::Hs256;
 use n32_outside::{FailList, FileKeeper, Keeper, MemKeeper, StdSink, StdSource};
 use n32_values::{Text, TextList};
-use replay_runs::{Status, journal_file, run};
+use replay_runs::{Status, journal_file, read_command, run};
 use std::env;
 use std::io::{self, ErrorKind};
 use std::process::ExitCode;
@@ -33,14 +35,44 @@ fn read_words(rt: &HostRuntime) -> Result<TextList, Status>
     Ok(words)
 }
 
-fn run_over<K: Keeper>(rt: &HostRuntime, words: &TextList, keeper: &mut K) -> Status
+// What the keys of intermediaries are made from, each with its identity.
+const ROOT: &[u8] = b"n32-demo";
+
+// Words of another shape are told before a want of memory.
+fn without_memory(words: &TextList) -> Status
+    ensures words { (result ≡ Status.Words) ↔ (command_of words.now ≡ None) }
+    ensures memory { (result ≡ Status.Words) ⊎ (result ≡ Status.NoMemory) }
+{
+    match read_command(words) {
+        Some(_) => Status::NoMemory,
+        None => Status::Words,
+    }
+}
+
+fn run_signed<K: Keeper>(
+    rt: &HostRuntime,
+    words: &TextList,
+    keeper: &mut K,
+    signer: &mut Hs256,
+) -> Status
     ensures words { (result ≡ Status.Words) ↔ (command_of words.now ≡ None) }
     ensures unkept { command_of words.now ≡ None → keeper.new ≡ keeper.old }
     ensures keeper_fault { result ≡ Status.KeeperFault → Rose (K.faults keeper.old) (K.faults keeper.new) }
 {
     let mut source = StdSource::new(rt.reader());
     let mut sink = StdSink::new(io::writer(rt));
-    run(rt.alloc(), words, &mut source, &mut sink, keeper)
+    run(rt.alloc(), words, &mut source, &mut sink, keeper, signer)
+}
+
+fn run_over<K: Keeper>(rt: &HostRuntime, words: &TextList, keeper: &mut K) -> Status
+    ensures words { (result ≡ Status.Words) ↔ (command_of words.now ≡ None) }
+    ensures unkept { command_of words.now ≡ None → keeper.new ≡ keeper.old }
+    ensures keeper_fault { result ≡ Status.KeeperFault → Rose (K.faults keeper.old) (K.faults keeper.new) }
+{
+    match Hs256::new(rt.alloc(), ROOT) {
+        Ok(mut signer) => run_signed(rt, words, keeper, &mut signer),
+        Err(_) => without_memory(words),
+    }
 }
 
 // The records are kept in the file that the words name, or in memory.

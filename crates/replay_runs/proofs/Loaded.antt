@@ -1,5 +1,5 @@
 -- From the run over loaded records to the whole run: the keeper's faults are counted from before the load, and the load may end the run.
-use Rattle.std.proofs.Common.{◌≡◌, ◌≢◌, ⊎_elim, ◌<◌, ◌≤◌, ◌+◌, ◌-◌, ℕ, zero, suc, List, [], ◌∷◌, ◌++◌, length, take, drop, slice_get, refl, ap, sym, subst, ◌∙◌, arith, append-nil, append_assoc, inl, inr, None, Some, IfSome}
+use Rattle.std.proofs.Common.{◌≡◌, ⊎_elim, ◌<◌, ◌+◌, ◌-◌, ℕ, zero, suc, List, [], ◌∷◌, ◌++◌, length, take, drop, slice_get, refl, ap, sym, subst, ◌∙◌, arith, append-nil, append_assoc, inl, inr, None, Some, IfSome}
 use Rattle.std.specs.Prelude.{Option}
 use Rattle.std.specs.Io.KnownBytes.{Appends}
 use Rattle.std.proofs.KnownBytes.{Appends-nil}
@@ -19,43 +19,44 @@ use Rattle.spec_script.specs.Answers.{answer_text}
 use Rattle.spec_script.specs.Output.{Answered, Numbered, Output, answers_text, begin}
 use Rattle.context_store.specs.Stores.{AreRecords, HasNoBad, IsNoRecord, IsFirstBad}
 use Rattle.context_store.proofs.Kept.{has_no_bad}
+use Rattle.spec_script.specs.Choices.{Meanings}
+use Rattle.replay_runs.specs.Outsiders.{Counts, Later}
 use Rattle.replay_world.specs.Worlds.{TellsRecords}
 use Rattle.replay_runs.specs.Unfailing.{plain_answers, plain_state}
-use Rattle.replay_runs.specs.Replays.{KeeperAnswers, RepliesToAll, RepliesToFirst, CutsReply, LacksMemory, RepliesInPart, Leaves, WritesFront, OverRecords, AreHeld, IsComplete}
-use Rattle.replay_runs.specs.Loads.{IsRefused, NamesBad, AtLoad, Untouched}
-use Rattle.replay_runs.specs.Lines.{IsOfLines}
+use Rattle.replay_runs.specs.Replays.{OutsideAnswers, RepliesToAll, RepliesToFirst, CutsReply, LacksMemory, RepliesInPart, Leaves, WritesFront, OverRecords, AreHeld}
+use Rattle.replay_runs.specs.Loads.{IsRefused, Untouched}
 use Rattle.replay_runs.specs.declared.status.Status.{Status}
 use Rattle.replay_runs.specs.declared.status.Status.TheVariants as status
 use Rattle.replay_runs.proofs.Plain.{answered_then, into_spoken, text-append, plain_answered}
 
 -- ---- counted from before the load
 
-earlier_keeper : (answers : List Numbered) (first faults faults' : ℕ) → first ≤ faults → KeeperAnswers answers faults faults' → KeeperAnswers answers first faults'
-earlier_keeper answers first faults faults' le k = record { faults = omega (arith, k.faults, le); sound = k.sound }
+earlier_causes : (answers : List Numbered) (first faults faults' : Counts) → Later first faults → OutsideAnswers answers faults faults' → OutsideAnswers answers first faults'
+earlier_causes answers first faults faults' le k = record { keeper = omega (arith, k.keeper, le.keeper); signer = omega (arith, k.signer, le.signer); sound = k.sound }
 
-earlier_all : (script : List ℕ) (records : List Record) (held : Option (List (List ℕ))) (first faults faults' : ℕ) (before after : Option (List ℕ)) → first ≤ faults → RepliesToAll script records held faults faults' before after → RepliesToAll script records held first faults' before after
-earlier_all script records held first faults faults' before after le a = record {
+earlier_all : (means : Meanings) (script : List ℕ) (records : List Record) (held : Option (List (List ℕ))) (first faults faults' : Counts) (before after : Option (List ℕ)) → Later first faults → RepliesToAll means script records held faults faults' before after → RepliesToAll means script records held first faults' before after
+earlier_all means script records held first faults faults' before after le a = record {
   out = a.out;
   last = a.last;
   output = a.output;
   written = a.written;
   held_is = a.held_is;
-  keeper = earlier_keeper a.output.answers first faults faults' le a.keeper;
-  one = λ none. a.one (λ rose. none (omega (arith, rose, le)));
+  causes = earlier_causes a.output.answers first faults faults' le a.causes;
+  one = λ none unsigned. a.one (λ rose. none (omega (arith, rose, le.keeper))) (λ rose. unsigned (omega (arith, rose, le.signer)));
 }
 
-earlier_first : (count : ℕ) (script : List ℕ) (records : List Record) (held : Option (List (List ℕ))) (first faults faults' : ℕ) (before after : Option (List ℕ)) → first ≤ faults → RepliesToFirst count script records held faults faults' before after → RepliesToFirst count script records held first faults' before after
-earlier_first count script records held first faults faults' before after le a = record {
+earlier_first : (means : Meanings) (count : ℕ) (script : List ℕ) (records : List Record) (held : Option (List (List ℕ))) (first faults faults' : Counts) (before after : Option (List ℕ)) → Later first faults → RepliesToFirst means count script records held faults faults' before after → RepliesToFirst means count script records held first faults' before after
+earlier_first means count script records held first faults faults' before after le a = record {
   answers = a.answers;
   last = a.last;
   answered = a.answered;
   written = a.written;
   held_is = a.held_is;
-  keeper = earlier_keeper a.answers first faults faults' le a.keeper;
+  causes = earlier_causes a.answers first faults faults' le a.causes;
 }
 
-earlier_cut : (script taken : List ℕ) (number : ℕ) (answers : List Numbered) (mid : State) (front : List ℕ) (held : Option (List (List ℕ))) (first faults faults' : ℕ) → first ≤ faults → CutsReply script taken number answers mid front held faults faults' → CutsReply script taken number answers mid front held first faults'
-earlier_cut script taken number answers mid front held first faults faults' le c = record {
+earlier_cut : (means : Meanings) (script taken : List ℕ) (number : ℕ) (answers : List Numbered) (mid : State) (front : List ℕ) (held : Option (List (List ℕ))) (first faults faults' : Counts) → Later first faults → CutsReply means script taken number answers mid front held faults faults' → CutsReply means script taken number answers mid front held first faults'
+earlier_cut means script taken number answers mid front held first faults faults' le c = record {
   line = c.line;
   next = c.next;
   spoken = c.spoken;
@@ -66,20 +67,20 @@ earlier_cut script taken number answers mid front held first faults faults' le c
   some = c.some;
   text = c.text;
   held_is = c.held_is;
-  keeper = earlier_keeper (answers ++ (number + 1, c.answer) ∷ []) first faults faults' le c.keeper;
+  causes = earlier_causes (answers ++ (number + 1, c.answer) ∷ []) first faults faults' le c.causes;
 }
 
-earlier_lacks : (script taken : List ℕ) (number : ℕ) (answers : List Numbered) (mid : State) (front : List ℕ) (held : Option (List (List ℕ))) (first faults faults' : ℕ) (s : Status) → first ≤ faults → LacksMemory script taken number answers mid front held faults faults' s → LacksMemory script taken number answers mid front held first faults' s
-earlier_lacks script taken number answers mid front held first faults faults' s le m = record {
+earlier_lacks : (means : Meanings) (script taken : List ℕ) (number : ℕ) (answers : List Numbered) (mid : State) (front : List ℕ) (held : Option (List (List ℕ))) (first faults faults' : Counts) (s : Status) → Later first faults → LacksMemory means script taken number answers mid front held faults faults' s → LacksMemory means script taken number answers mid front held first faults' s
+earlier_lacks means script taken number answers mid front held first faults faults' s le m = record {
   memory = m.memory;
   none = m.none;
   held_is = m.held_is;
-  keeper = earlier_keeper answers first faults faults' le m.keeper;
+  causes = earlier_causes answers first faults faults' le m.causes;
 }
 
-earlier_part : (script : List ℕ) (left : Option (List ℕ)) (records : List Record) (held : Option (List (List ℕ))) (first faults faults' : ℕ) (before after : Option (List ℕ)) (s : Status) → first ≤ faults
-    → RepliesInPart script left records held faults faults' before after s → RepliesInPart script left records held first faults' before after s
-earlier_part script left records held first faults faults' before after s le a = record {
+earlier_part : (means : Meanings) (script : List ℕ) (left : Option (List ℕ)) (records : List Record) (held : Option (List (List ℕ))) (first faults faults' : Counts) (before after : Option (List ℕ)) (s : Status) → Later first faults
+    → RepliesInPart means script left records held faults faults' before after s → RepliesInPart means script left records held first faults' before after s
+earlier_part means script left records held first faults faults' before after s le a = record {
   taken = a.taken;
   number = a.number;
   takes = a.takes;
@@ -88,30 +89,30 @@ earlier_part script left records held first faults faults' before after s le a =
   answered = a.answered;
   front = a.front;
   stops = elim a.stops [
-    | inl c ↦ inl (earlier_cut script a.taken a.number a.answers a.mid a.front held first faults faults' le c)
-    | inr m ↦ inr (earlier_lacks script a.taken a.number a.answers a.mid a.front held first faults faults' s le m)
+    | inl c ↦ inl (earlier_cut means script a.taken a.number a.answers a.mid a.front held first faults faults' le c)
+    | inr m ↦ inr (earlier_lacks means script a.taken a.number a.answers a.mid a.front held first faults faults' s le m)
   ];
   written = a.written;
 }
 
-earlier : (script : List ℕ) (left : Option (List ℕ)) (records : List Record) (held : Option (List (List ℕ))) (first faults faults' : ℕ) (before after : Option (List ℕ)) (s : Status) → first ≤ faults
-    → Leaves script left records held faults faults' before after s → Leaves script left records held first faults' before after s
-earlier script left records held first faults faults' before after status.Done le e = (e.0, e.1, earlier_all script records held first faults faults' before after le e.2)
-earlier script left records held first faults faults' before after status.ReadFault le e = record {
+earlier : (means : Meanings) (script : List ℕ) (left : Option (List ℕ)) (records : List Record) (held : Option (List (List ℕ))) (first faults faults' : Counts) (before after : Option (List ℕ)) (s : Status) → Later first faults
+    → Leaves means script left records held faults faults' before after s → Leaves means script left records held first faults' before after s
+earlier means script left records held first faults faults' before after status.Done le e = (e.0, e.1, earlier_all means script records held first faults faults' before after le e.2)
+earlier means script left records held first faults faults' before after status.ReadFault le e = record {
   taken = e.taken;
   rest = e.rest;
   parts = e.parts;
   left_is = e.left_is;
   within = e.within;
-  replies = earlier_first (ended_lines e.taken) script records held first faults faults' before after le e.replies;
+  replies = earlier_first means (ended_lines e.taken) script records held first faults faults' before after le e.replies;
 }
-earlier script left records held first faults faults' before after (status.LineTooLong n) le e = (e.0, earlier_first (n - 1) script records held first faults faults' before after le e.1)
-earlier script left records held first faults faults' before after status.ScriptTooLarge le e = (e.0, earlier_first (ended_lines (take script_limit script)) script records held first faults faults' before after le e.1)
-earlier script left records held first faults faults' before after status.WriteFault le e = earlier_part script left records held first faults faults' before after status.WriteFault le e
-earlier script left records held first faults faults' before after status.NoMemory le e = earlier_part script left records held first faults faults' before after status.NoMemory le e
-earlier script left records held first faults faults' before after (status.Journal k) le e = e
-earlier script left records held first faults faults' before after status.KeeperFault le e = e
-earlier script left records held first faults faults' before after status.Words le e = absurd e
+earlier means script left records held first faults faults' before after (status.LineTooLong n) le e = (e.0, earlier_first means (n - 1) script records held first faults faults' before after le e.1)
+earlier means script left records held first faults faults' before after status.ScriptTooLarge le e = (e.0, earlier_first means (ended_lines (take script_limit script)) script records held first faults faults' before after le e.1)
+earlier means script left records held first faults faults' before after status.WriteFault le e = earlier_part means script left records held first faults faults' before after status.WriteFault le e
+earlier means script left records held first faults faults' before after status.NoMemory le e = earlier_part means script left records held first faults faults' before after status.NoMemory le e
+earlier means script left records held first faults faults' before after (status.Journal k) le e = e
+earlier means script left records held first faults faults' before after status.KeeperFault le e = e
+earlier means script left records held first faults faults' before after status.Words le e = absurd e
 
 over_weaker : (held : Option (List (List ℕ))) (P Q : List Record → Type 0) → ((records : List Record) → P records → Q records) → OverRecords held P → OverRecords held Q
 over_weaker None P Q f h = tt
@@ -121,20 +122,20 @@ over_any : (held : Option (List (List ℕ))) (P : List Record → Type 0) → ((
 over_any None P f = tt
 over_any (Some texts) P f = λ records are. f records (record { texts = texts; told = refl; are = are })
 
-pub loaded_leaves : (first left : Option (List ℕ)) (held loaded held' : Option (List (List ℕ))) (faults faults' faults'' : ℕ) (before after : Option (List ℕ)) (s : Status) → loaded ≡ held → faults ≤ faults'
-    → IfSome first (λ script. OverRecords loaded (λ records. Leaves script left records held' faults' faults'' before after s))
-    → IfSome first (λ script. OverRecords held (λ records. Leaves script left records held' faults faults'' before after s))
-loaded_leaves None left held loaded held' faults faults' faults'' before after s same le e = tt
-loaded_leaves (Some script) left held loaded held' faults faults' faults'' before after s same le e =
-    let P : Option (List (List ℕ)) → Type 0 = λ o. OverRecords o (λ records. Leaves script left records held' faults' faults'' before after s) in
-    over_weaker held (λ records. Leaves script left records held' faults' faults'' before after s) (λ records. Leaves script left records held' faults faults'' before after s)
-    (λ records. earlier script left records held' faults faults' faults'' before after s le) (subst P same e)
+pub loaded_leaves : (means : Meanings) (first left : Option (List ℕ)) (held loaded held' : Option (List (List ℕ))) (faults faults' faults'' : Counts) (before after : Option (List ℕ)) (s : Status) → loaded ≡ held → Later faults faults'
+    → IfSome first (λ script. OverRecords loaded (λ records. Leaves means script left records held' faults' faults'' before after s))
+    → IfSome first (λ script. OverRecords held (λ records. Leaves means script left records held' faults faults'' before after s))
+loaded_leaves means None left held loaded held' faults faults' faults'' before after s same le e = tt
+loaded_leaves means (Some script) left held loaded held' faults faults' faults'' before after s same le e =
+    let P : Option (List (List ℕ)) → Type 0 = λ o. OverRecords o (λ records. Leaves means script left records held' faults' faults'' before after s) in
+    over_weaker held (λ records. Leaves means script left records held' faults' faults'' before after s) (λ records. Leaves means script left records held' faults faults'' before after s)
+    (λ records. earlier means script left records held' faults faults' faults'' before after s le) (subst P same e)
 
 -- ---- the load ended the run
 
-nothing_replied : (script : List ℕ) (records : List Record) (held : Option (List (List ℕ))) (faults faults' : ℕ) (written : Option (List ℕ)) → TellsRecords held records → faults ≤ faults'
-    → RepliesInPart script (Some script) records held faults faults' written written status.NoMemory
-nothing_replied script records held faults faults' written t le = record {
+nothing_replied : (means : Meanings) (script : List ℕ) (records : List Record) (held : Option (List (List ℕ))) (faults faults' : Counts) (written : Option (List ℕ)) → TellsRecords held records → Later faults faults'
+    → RepliesInPart means script (Some script) records held faults faults' written written status.NoMemory
+nothing_replied means script records held faults faults' written t le = record {
   taken = [];
   number = 0;
   takes = record { rest = script; parts = refl; left_is = refl; size = omega arith; ended = omega arith; short = All-nil IsShort };
@@ -142,71 +143,81 @@ nothing_replied script records held faults faults' written t le = record {
   mid = begin records;
   answered = (refl, refl);
   front = [];
-  stops = inr (record { memory = refl; none = refl; held_is = inl t; keeper = record { faults = omega (arith, le); sound = refl } });
+  stops = inr (record { memory = refl; none = refl; held_is = inl t; causes = record { keeper = omega (arith, le.keeper); signer = omega (arith, le.signer); sound = refl } });
   written = Appends-nil written;
 }
 
-pub memory_leaves : (first : Option (List ℕ)) (held held' : Option (List (List ℕ))) (faults faults' : ℕ) (written : Option (List ℕ)) → held' ≡ held → faults ≤ faults'
-    → IfSome first (λ script. OverRecords held (λ records. Leaves script first records held' faults faults' written written status.NoMemory))
-memory_leaves None held held' faults faults' written same le = tt
-memory_leaves (Some script) held held' faults faults' written same le =
-    over_any held (λ records. Leaves script (Some script) records held' faults faults' written written status.NoMemory)
-    (λ records t. nothing_replied script records held' faults faults' written (subst (λ (o : Option (List (List ℕ))). TellsRecords o records) (sym same) t) le)
+pub memory_leaves : (means : Meanings) (first : Option (List ℕ)) (held held' : Option (List (List ℕ))) (faults faults' : Counts) (written : Option (List ℕ)) → held' ≡ held → Later faults faults'
+    → IfSome first (λ script. OverRecords held (λ records. Leaves means script first records held' faults faults' written written status.NoMemory))
+memory_leaves means None held held' faults faults' written same le = tt
+memory_leaves means (Some script) held held' faults faults' written same le =
+    over_any held (λ records. Leaves means script (Some script) records held' faults faults' written written status.NoMemory)
+    (λ records t. nothing_replied means script records held' faults faults' written (subst (λ (o : Option (List (List ℕ))). TellsRecords o records) (sym same) t) le)
+
+-- ---- where the signer tells
+
+pub means_any : (o : Option Meanings) (P : Meanings → Type 0) → ((means : Meanings) → o ≡ Some means → P means) → IfSome o P
+means_any None P f = tt
+means_any (Some means) P f = f means refl
+
+pub means_on : (o : Option Meanings) (P Q : Meanings → Type 0) → ((means : Meanings) → P means → Q means) → IfSome o P → IfSome o Q
+means_on None P Q f h = tt
+means_on (Some means) P Q f h = f means h
 
 -- ---- a front of an output
 
 -- the answers to some first lines begin an output
-record BeginsOutput (script : List ℕ) (records : List Record) (answers : List Numbered) : Type 0 where
+record BeginsOutput (means : Meanings) (script : List ℕ) (records : List Record) (answers : List Numbered) : Type 0 where
   whole : List Numbered
   last : State
-  output : Output records script (answers_text whole) last
+  output : Output means records script (answers_text whole) last
   rest : List ℕ
   parts : answers_text whole ≡ answers_text answers ++ rest
 
-begins_output : (count : ℕ) (script : List ℕ) (records : List Record) (answers : List Numbered) (mid : State) → Answered (begin records) 1 (take count (lines_of script)) answers mid → BeginsOutput script records answers
-begins_output count script records answers mid answered =
+begins_output : (means : Meanings) (count : ℕ) (script : List ℕ) (records : List Record) (answers : List Numbered) (mid : State) → Answered means (begin records) 1 (take count (lines_of script)) answers mid → BeginsOutput means script records answers
+begins_output means count script records answers mid answered =
     let lines : List (List ℕ) = take count (lines_of script) in
     let others : List (List ℕ) = drop count (lines_of script) in
-    let more : List Numbered = plain_answers mid (1 + length lines) others in
-    let P : List (List ℕ) → Type 0 = λ ls. Answered (begin records) 1 ls (answers ++ more) (plain_state mid others) in
+    let more : List Numbered = plain_answers means mid (1 + length lines) others in
+    let P : List (List ℕ) → Type 0 = λ ls. Answered means (begin records) 1 ls (answers ++ more) (plain_state means mid others) in
     record {
       whole = answers ++ more;
-      last = plain_state mid others;
+      last = plain_state means mid others;
       output = record {
         answers = answers ++ more;
-        answered = subst P (take-append-drop count (lines_of script)) (answered_then (begin records) 1 lines answers mid (1 + length lines) others more (plain_state mid others) refl answered (plain_answered mid (1 + length lines) others));
+        answered = subst P (take-append-drop count (lines_of script)) (answered_then means (begin records) 1 lines answers mid (1 + length lines) others more (plain_state means mid others) refl answered (plain_answered means mid (1 + length lines) others));
         text = refl;
       };
       rest = answers_text more;
       parts = text-append answers more;
     }
 
-front_of_first : (count : ℕ) (script : List ℕ) (records : List Record) (held : Option (List (List ℕ))) (faults faults' : ℕ) (before after : Option (List ℕ)) → RepliesToFirst count script records held faults faults' before after → WritesFront script records before after
-front_of_first count script records held faults faults' before after a =
-    let b = begins_output count script records a.answers a.last a.answered in
+front_of_first : (means : Meanings) (count : ℕ) (script : List ℕ) (records : List Record) (held : Option (List (List ℕ))) (faults faults' : Counts) (before after : Option (List ℕ)) → RepliesToFirst means count script records held faults faults' before after → WritesFront means script records before after
+front_of_first means count script records held faults faults' before after a =
+    let b = begins_output means count script records a.answers a.last a.answered in
     record { out = answers_text b.whole; last = b.last; output = b.output; front = answers_text a.answers; rest = b.rest; parts = b.parts; written = a.written }
 
 -- with the answer to the line that was cut
-cut_begins : (script taken : List ℕ) (number : ℕ) (records : List Record) (answers : List Numbered) (mid : State) (front : List ℕ) (held : Option (List (List ℕ))) (faults faults' : ℕ) → Answered (begin records) 1 (take number (lines_of script)) answers mid
-    → (c : CutsReply script taken number answers mid front held faults faults') → BeginsOutput script records (answers ++ (number + 1, c.answer) ∷ [])
-cut_begins script taken number records answers mid front held faults faults' answered c =
+cut_begins : (means : Meanings) (script taken : List ℕ) (number : ℕ) (records : List Record) (answers : List Numbered) (mid : State) (front : List ℕ) (held : Option (List (List ℕ))) (faults faults' : Counts) → Answered means (begin records) 1 (take number (lines_of script)) answers mid
+    → (c : CutsReply means script taken number answers mid front held faults faults') → BeginsOutput means script records (answers ++ (number + 1, c.answer) ∷ [])
+cut_begins means script taken number records answers mid front held faults faults' answered c =
     let lines : List (List ℕ) = take number (lines_of script) in
     let within = slice_get_within (lines_of script) number c.line c.next.there in
     let few : length lines ≡ number = length-take-le number (lines_of script) (omega (arith, within)) in
     let place : number + 1 ≡ 1 + length lines = omega (arith, few) in
-    let one : Answered mid (number + 1) (c.line ∷ []) ((number + 1, c.answer) ∷ []) c.last =
+    let one : Answered means mid (number + 1) (c.line ∷ []) ((number + 1, c.answer) ∷ []) c.last =
     into_spoken _ _ (is_blank c.line) c.spoken (c.answer, [], c.last, refl, c.answered, (refl, refl)) in
-    let P : List (List ℕ) → Type 0 = λ ls. Answered (begin records) 1 ls (answers ++ (number + 1, c.answer) ∷ []) c.last in
-    begins_output (number + 1) script records (answers ++ (number + 1, c.answer) ∷ []) c.last
-    (subst P (sym (take_at (lines_of script) number c.line c.next.there)) (answered_then (begin records) 1 lines answers mid (number + 1) (c.line ∷ []) ((number + 1, c.answer) ∷ []) c.last place answered one))
+    let P : List (List ℕ) → Type 0 = λ ls. Answered means (begin records) 1 ls (answers ++ (number + 1, c.answer) ∷ []) c.last in
+    begins_output means (number + 1) script records (answers ++ (number + 1, c.answer) ∷ []) c.last
+    (subst P (sym (take_at (lines_of script) number c.line c.next.there)) (answered_then means (begin records) 1 lines answers mid (number + 1) (c.line ∷ []) ((number + 1, c.answer) ∷ []) c.last place answered one))
 
-front_of_part : (script : List ℕ) (left : Option (List ℕ)) (records : List Record) (held : Option (List (List ℕ))) (faults faults' : ℕ) (before after : Option (List ℕ)) (s : Status) → RepliesInPart script left records held faults faults' before after s → WritesFront script records before after
-front_of_part script left records held faults faults' before after s a = elim a.stops [ inl c ↦ cut c | inr m ↦ whole m.none ]
+front_of_part : (means : Meanings) (script : List ℕ) (left : Option (List ℕ)) (records : List Record) (held : Option (List (List ℕ))) (faults faults' : Counts) (before after : Option (List ℕ)) (s : Status) → RepliesInPart means script left records held faults faults' before after s → WritesFront means script records before after
+front_of_part means script left records held faults faults' before after s a = elim a.stops [ inl c ↦ cut c | inr m ↦ whole m.none ]
   where
-    cut : CutsReply script a.taken a.number a.answers a.mid a.front held faults faults' → WritesFront script records before after
+    cut : CutsReply means script a.taken a.number a.answers a.mid a.front held faults faults' → WritesFront means script records before after
     cut c =
         let text : List ℕ = answers_text a.answers in
-        let b = cut_begins script a.taken a.number records a.answers a.mid a.front held faults faults' a.answered c in
+        let b = cut_begins means script a.taken a.number records a.answers a.mid a.front held faults faults' a.answered c in
         let own : List ℕ = answer_text (a.number + 1) c.answer ++ 10 ∷ [] in
         let all : answers_text (a.answers ++ (a.number + 1, c.answer) ∷ []) ≡ (text ++ a.front) ++ c.rest =
         text-append a.answers ((a.number + 1, c.answer) ∷ []) ∙ (ap (λ (z : List ℕ). text ++ z) (append-nil own ∙ c.text) ∙ sym (append_assoc text a.front c.rest)) in
@@ -220,10 +231,10 @@ front_of_part script left records held faults faults' before after s a = elim a.
           written = a.written;
         }
 
-    whole : a.front ≡ [] → WritesFront script records before after
+    whole : a.front ≡ [] → WritesFront means script records before after
     whole none =
         let text : List ℕ = answers_text a.answers in
-        let b = begins_output a.number script records a.answers a.mid a.answered in
+        let b = begins_output means a.number script records a.answers a.mid a.answered in
         record {
           out = answers_text b.whole;
           last = b.last;
@@ -234,38 +245,38 @@ front_of_part script left records held faults faults' before after s a = elim a.
           written = a.written;
         }
 
-front_of_none : (script : List ℕ) (records : List Record) (before after : Option (List ℕ)) → after ≡ before → WritesFront script records before after
-front_of_none script records before after same =
-    let b = begins_output 0 script records [] (begin records) (refl, refl) in
+front_of_none : (means : Meanings) (script : List ℕ) (records : List Record) (before after : Option (List ℕ)) → after ≡ before → WritesFront means script records before after
+front_of_none means script records before after same =
+    let b = begins_output means 0 script records [] (begin records) (refl, refl) in
     let P : Option (List ℕ) → Type 0 = λ o. Appends before o [] in
     record { out = answers_text b.whole; last = b.last; output = b.output; front = []; rest = b.rest; parts = b.parts; written = subst P (sym same) (Appends-nil before) }
 
-front_of : (script : List ℕ) (left : Option (List ℕ)) (records : List Record) (held : Option (List (List ℕ))) (faults faults' : ℕ) (before after : Option (List ℕ)) (s : Status)
-    → Leaves script left records held faults faults' before after s → WritesFront script records before after
-front_of script left records held faults faults' before after status.Done e =
+front_of : (means : Meanings) (script : List ℕ) (left : Option (List ℕ)) (records : List Record) (held : Option (List (List ℕ))) (faults faults' : Counts) (before after : Option (List ℕ)) (s : Status)
+    → Leaves means script left records held faults faults' before after s → WritesFront means script records before after
+front_of means script left records held faults faults' before after status.Done e =
     let a = e.2 in
     record { out = a.out; last = a.last; output = a.output; front = a.out; rest = []; parts = sym (append-nil a.out); written = a.written }
-front_of script left records held faults faults' before after status.ReadFault e = front_of_first (ended_lines e.taken) script records held faults faults' before after e.replies
-front_of script left records held faults faults' before after (status.LineTooLong n) e = front_of_first (n - 1) script records held faults faults' before after e.1
-front_of script left records held faults faults' before after status.ScriptTooLarge e = front_of_first (ended_lines (take script_limit script)) script records held faults faults' before after e.1
-front_of script left records held faults faults' before after status.WriteFault e = front_of_part script left records held faults faults' before after status.WriteFault e
-front_of script left records held faults faults' before after status.NoMemory e = front_of_part script left records held faults faults' before after status.NoMemory e
-front_of script left records held faults faults' before after (status.Journal k) e = front_of_none script records before after e.0
-front_of script left records held faults faults' before after status.KeeperFault e = front_of_none script records before after e.0
-front_of script left records held faults faults' before after status.Words e = absurd e
+front_of means script left records held faults faults' before after status.ReadFault e = front_of_first means (ended_lines e.taken) script records held faults faults' before after e.replies
+front_of means script left records held faults faults' before after (status.LineTooLong n) e = front_of_first means (n - 1) script records held faults faults' before after e.1
+front_of means script left records held faults faults' before after status.ScriptTooLarge e = front_of_first means (ended_lines (take script_limit script)) script records held faults faults' before after e.1
+front_of means script left records held faults faults' before after status.WriteFault e = front_of_part means script left records held faults faults' before after status.WriteFault e
+front_of means script left records held faults faults' before after status.NoMemory e = front_of_part means script left records held faults faults' before after status.NoMemory e
+front_of means script left records held faults faults' before after (status.Journal k) e = front_of_none means script records before after e.0
+front_of means script left records held faults faults' before after status.KeeperFault e = front_of_none means script records before after e.0
+front_of means script left records held faults faults' before after status.Words e = absurd e
 
-pub front_told : (first left : Option (List ℕ)) (held held' : Option (List (List ℕ))) (faults faults' : ℕ) (before after : Option (List ℕ)) (s : Status)
-    → IfSome first (λ script. OverRecords held (λ records. Leaves script left records held' faults faults' before after s))
-    → IfSome first (λ script. OverRecords held (λ records. WritesFront script records before after))
-front_told None left held held' faults faults' before after s e = tt
-front_told (Some script) left held held' faults faults' before after s e =
-    over_weaker held (λ records. Leaves script left records held' faults faults' before after s) (λ records. WritesFront script records before after)
-    (λ records. front_of script left records held' faults faults' before after s) e
+pub front_told : (means : Meanings) (first left : Option (List ℕ)) (held held' : Option (List (List ℕ))) (faults faults' : Counts) (before after : Option (List ℕ)) (s : Status)
+    → IfSome first (λ script. OverRecords held (λ records. Leaves means script left records held' faults faults' before after s))
+    → IfSome first (λ script. OverRecords held (λ records. WritesFront means script records before after))
+front_told means None left held held' faults faults' before after s e = tt
+front_told means (Some script) left held held' faults faults' before after s e =
+    over_weaker held (λ records. Leaves means script left records held' faults faults' before after s) (λ records. WritesFront means script records before after)
+    (λ records. front_of means script left records held' faults faults' before after s) e
 
 -- nothing was written
-pub none_told : (first : Option (List ℕ)) (held : Option (List (List ℕ))) (written : Option (List ℕ)) → IfSome first (λ script. OverRecords held (λ records. WritesFront script records written written))
-none_told None held written = tt
-none_told (Some script) held written = over_any held (λ records. WritesFront script records written written) (λ records t. front_of_none script records written written refl)
+pub none_told : (means : Meanings) (first : Option (List ℕ)) (held : Option (List (List ℕ))) (written : Option (List ℕ)) → IfSome first (λ script. OverRecords held (λ records. WritesFront means script records written written))
+none_told means None held written = tt
+none_told means (Some script) held written = over_any held (λ records. WritesFront means script records written written) (λ records t. front_of_none means script records written written refl)
 
 -- ---- bad records
 

@@ -7,11 +7,12 @@ use Rattle.spec_records.specs.Records.{KeySet, Context, Record, record_limit}
 use Rattle.spec_exchange.specs.Chain.{◌>>=◌, unless}
 use Rattle.spec_exchange.specs.Outside.{Choice, Putting, Kept, Lost, KeptUntold, with_put}
 use Rattle.spec_exchange.specs.FirstFailed.{first_failed}
-use Rattle.spec_exchange.specs.Calls.{Asks, accepted, sends, protected, delivered_record, sent_record}
+use Rattle.spec_exchange.specs.Calls.{Outgoing, accepted, sends, protected, delivered_record, sent_record}
 use Rattle.spec_exchange.proofs.ChainLemmas.{puts-some, first_failed-ok, protected-ok}
 use Rattle.spec_script.specs.Refusals.{Refusal}
-use Rattle.spec_script.specs.Events.{Event, AddNode, AddContext, AddKeys, Send, Inject, Deliver, Restart, line_event}
-use Rattle.spec_script.specs.Steps.{State, Step, refuses, or_refuses, puts, sends_sealed, delivers, room_for_record, opens, keys_up, step, step_with, line_step}
+use Rattle.spec_script.specs.Events.{Event, AddNode, AddContext, AddKeys, Send, Inject, Deliver, Restart, Pass, Alter, Reported, line_event}
+use Rattle.spec_script.specs.Choices.{Signing, Signs, SignerFails, Choices}
+use Rattle.spec_script.specs.Steps.{State, Step, refuses, or_refuses, puts, sends_sealed, delivers, room_for_record, passes_on, opens, keys_up, step, step_with, line_step}
 use Rattle.spec_script.proofs.StepLemmas.{through}
 
 -- what is held after the step is within the limit
@@ -55,28 +56,35 @@ keyed_fits s f node id set =
     through (Fits s) s _ _ (refused_fits s) λ read. through (Fits s) s _ _ (refused_fits s) λ x. through (Fits s) s _ _ (refused_fits s) λ new. through (Fits s) s _ _ (refused_fits s) λ fit.
     behind_room s _ λ u room. puts_fits s f.putting _ _ room
 
-sealed_fits : (s : State) (f : Choice) (node : List ℕ) (id : ℕ) (m : Message) → Fits s (sends_sealed s (sends f s.records node id Asks m))
-sealed_fits s f node id m = put_fits s.records (sends f s.records node id Asks m).put λ r e.
-    let p = puts-some f.reading (protected s.records node id Asks m) f.putting sent_record r e in
-    (protected-ok s.records node id Asks m p.value p.is).room
+sealed_fits : (s : State) (f : Choice) (node : List ℕ) (id : ℕ) (o : Outgoing) (m : Message) → Fits s (sends_sealed s (sends f s.records node id o m))
+sealed_fits s f node id o m = put_fits s.records (sends f s.records node id o m).put λ r e.
+    let p = puts-some f.reading (protected s.records node id o m) f.putting sent_record r e in
+    (protected-ok s.records node id o m p.value p.is).room
 
-came_fits : (s : State) (f : Choice) (node : List ℕ) (t : Tree) → Fits s (delivers s (accepted f s.records node t))
+came_fits : (s : State) (f : Choice) (node : List ℕ) (t : Tree) → Fits s (delivers s t (accepted f s.records node t))
 came_fits s f node t = put_fits s.records (accepted f s.records node t).put λ r e.
     let p = puts-some f.reading (first_failed s.records node t) f.putting delivered_record r e in
     (first_failed-ok s.records node t p.value p.is).room
 
-event_fits : (s : State) (f : Choice) (e : Event) → Fits s (step s f e)
-event_fits s f (AddNode node plmn) = through (Fits s) s _ _ (refused_fits s) λ new few. few
-event_fits s f (AddContext x) = through (Fits s) s _ _ (refused_fits s) λ plmn. through (Fits s) s _ _ (refused_fits s) λ policy. opened_fits s f _
-event_fits s f (AddKeys node id set) = through (Fits s) s _ _ (refused_fits s) λ plmn. keyed_fits s f node id set
-event_fits s f (Send node id t answers) = through (Fits s) s _ _ (refused_fits s) λ plmn. through (Fits s) s _ _ (refused_fits s) λ m. sealed_fits s f node id m
-event_fits s f (Inject t) = λ few. few
-event_fits s f (Deliver node number) = through (Fits s) s _ _ (refused_fits s) λ plmn. through (Fits s) s _ _ (refused_fits s) λ t. came_fits s f node t
-event_fits s f (Restart node) = through (Fits s) s _ _ (refused_fits s) λ plmn few. few
+passed_fits : (s : State) (signing : Signing) (ipx : List ℕ) (operations t : Tree) → Fits s (or_refuses s (passes_on s signing ipx operations t))
+passed_fits s (Signs g) ipx operations t = through (Fits s) s _ _ (refused_fits s) λ d few. few
+passed_fits s SignerFails ipx operations t = through (Fits s) s _ _ (refused_fits s) λ parts few. few
 
-read_fits : (s : State) (f : Choice) (r : Result Event Refusal) → Fits s (step_with s f r)
+event_fits : (s : State) (f : Choices) (e : Event) → Fits s (step s f e)
+event_fits s f (AddNode node plmn) = through (Fits s) s _ _ (refused_fits s) λ new few. few
+event_fits s f (AddContext x) = through (Fits s) s _ _ (refused_fits s) λ plmn. through (Fits s) s _ _ (refused_fits s) λ policy. opened_fits s f.keeper _
+event_fits s f (AddKeys node id set) = through (Fits s) s _ _ (refused_fits s) λ plmn. keyed_fits s f.keeper node id set
+event_fits s f (Send node id t answers) = through (Fits s) s _ _ (refused_fits s) λ plmn. through (Fits s) s _ _ (refused_fits s) λ room. through (Fits s) s _ _ (refused_fits s) λ m. sealed_fits s f.keeper node id m.0 m.1
+event_fits s f (Pass ipx number operations) = through (Fits s) s _ _ (refused_fits s) λ t. through (Fits s) s _ _ (refused_fits s) λ room. passed_fits s f.signer ipx operations t
+event_fits s f (Inject t) = through (Fits s) s _ _ (refused_fits s) λ room few. few
+event_fits s f (Alter number ops) = through (Fits s) s _ _ (refused_fits s) λ t. through (Fits s) s _ _ (refused_fits s) λ room. through (Fits s) s _ _ (refused_fits s) λ u few. few
+event_fits s f (Deliver node number) = through (Fits s) s _ _ (refused_fits s) λ plmn. through (Fits s) s _ _ (refused_fits s) λ t. came_fits s f.keeper node t
+event_fits s f (Restart node) = through (Fits s) s _ _ (refused_fits s) λ plmn few. few
+event_fits s f (Reported node t) = through (Fits s) s _ _ (refused_fits s) λ plmn. through (Fits s) s _ _ (refused_fits s) λ r few. few
+
+read_fits : (s : State) (f : Choices) (r : Result Event Refusal) → Fits s (step_with s f r)
 read_fits s f (Ok e) = event_fits s f e
 read_fits s f (Err e) = refused_fits s e
 
-pub line_fits : (s : State) (f : Choice) (line : List ℕ) → length s.records ≤ record_limit → length (with_put s.records (line_step s f line).put) ≤ record_limit
+pub line_fits : (s : State) (f : Choices) (line : List ℕ) → length s.records ≤ record_limit → length (with_put s.records (line_step s f line).put) ≤ record_limit
 line_fits s f line = read_fits s f (line_event line)

@@ -1,3 +1,4 @@
+pub mod Outsiders
 pub mod Commands
 pub mod Statuses
 pub mod Unfailing

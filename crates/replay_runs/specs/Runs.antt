@@ -7,6 +7,8 @@ use Rattle.script_loop.specs.Lines.{IsWithin}
 use Rattle.script_loop.specs.declared.ending.Ending.{Ending}
 use Rattle.context_store.specs.Stores.{IsFirstBad}
 use Rattle.blocks_word.specs.BlockRuns as blocks
+use Rattle.spec_script.specs.Choices.{Meanings}
+use Rattle.replay_runs.specs.Outsiders.{counts}
 use Rattle.replay_runs.specs.Statuses.{status_of}
 use Rattle.replay_runs.specs.Replays.{Leaves, WritesFront, OverRecords, AreHeld, IsComplete}
 use Rattle.replay_runs.specs.Loads.{IsRefused, NamesBad, AtLoad, Untouched}
@@ -15,7 +17,7 @@ use Rattle.replay_runs.specs.declared.command.Command.TheVariants.{Blocks, Repla
 use Rattle.replay_runs.specs.declared.status.Status.{Status}
 use Rattle.replay_runs.specs.declared.status.Status.TheVariants as status
 
--- What source, sink and keeper tell: the bytes that are left, those that were written, the texts that are held, and how often each failed.
+-- What source, sink, keeper and signer tell: the bytes that are left, those that were written, the texts that are held, how often each failed, and how the signer signs.
 pub record Seen : Type 0 where
   pub left : Option (List ℕ)
   pub written : Option (List ℕ)
@@ -23,15 +25,19 @@ pub record Seen : Type 0 where
   pub read_faults : ℕ
   pub write_faults : ℕ
   pub keeper_faults : ℕ
+  pub means : Option Meanings
+  pub signer_faults : ℕ
 
-abbrev pub seen : (left written : Option (List ℕ)) (held : Option (List (List ℕ))) (read_faults write_faults keeper_faults : ℕ) → Seen
-seen left written held read_faults write_faults keeper_faults = record {
+abbrev pub seen : (left written : Option (List ℕ)) (held : Option (List (List ℕ))) (read_faults write_faults keeper_faults : ℕ) (means : Option Meanings) (signer_faults : ℕ) → Seen
+seen left written held read_faults write_faults keeper_faults means signer_faults = record {
   left = left;
   written = written;
   held = held;
   read_faults = read_faults;
   write_faults = write_faults;
   keeper_faults = keeper_faults;
+  means = means;
+  signer_faults = signer_faults;
 }
 
 -- A fault is told only where the object failed in this run.
@@ -42,30 +48,33 @@ pub record HasCauses (before after : Seen) (result : Status) : Type 0 where
   pub reading : before.read_faults ≤ after.read_faults
   pub writing : before.write_faults ≤ after.write_faults
   pub keeping : before.keeper_faults ≤ after.keeper_faults
+  pub signing : before.signer_faults ≤ after.signer_faults
 
 -- ---- by the command
 
 -- Other words are refused before anything is read or written, and before the keeper is asked.
-pub record IsUnknown {S O K : Type 0} (source source' : S) (sink sink' : O) (keeper keeper' : K) (result : Status) : Type 0 where
+pub record IsUnknown {S O K G : Type 0} (source source' : S) (sink sink' : O) (keeper keeper' : K) (signer signer' : G) (result : Status) : Type 0 where
   pub words : result ≡ status.Words
   pub source_stays : source' ≡ source
   pub sink_stays : sink' ≡ sink
   pub keeper_stays : keeper' ≡ keeper
+  pub signer_stays : signer' ≡ signer
 
--- `blocks`, which asks no keeper
-pub record RunsBlocks {K : Type 0} (keeper keeper' : K) (before after : Seen) (result : Status) : Type 0 where
+-- `blocks`, which asks neither keeper nor signer
+pub record RunsBlocks {K G : Type 0} (keeper keeper' : K) (signer signer' : G) (before after : Seen) (result : Status) : Type 0 where
   pub ending : Ending
   pub is : result ≡ status_of ending
   pub runs : blocks.Runs before.left after.left before.written after.written ending
   pub keeper_stays : keeper' ≡ keeper
+  pub signer_stays : signer' ≡ signer
 
 -- `replay`: THE REPLAY THEOREM
 pub record RunsReplay {S O : Type 0} (source source' : S) (sink sink' : O) (before after : Seen) (result : Status) : Type 0 where
-  -- what is left, by the status, where the source tells its bytes, and the keeper texts that are all of records
-  pub leaves : IfSome before.left (λ script. OverRecords before.held (λ records.
-      Leaves script after.left records after.held before.keeper_faults after.keeper_faults before.written after.written result))
+  -- what is left, by the status, where the source tells its bytes, the keeper texts that are all of records, and the signer how it signs
+  pub leaves : IfSome before.means (λ means. IfSome before.left (λ script. OverRecords before.held (λ records.
+      Leaves means script after.left records after.held (counts before.keeper_faults before.signer_faults) (counts after.keeper_faults after.signer_faults) before.written after.written result)))
   -- whatever the status, a front of an output over these records was written
-  pub front : IfSome before.left (λ script. OverRecords before.held (λ records. WritesFront script records before.written after.written))
+  pub front : IfSome before.means (λ means. IfSome before.left (λ script. OverRecords before.held (λ records. WritesFront means script records before.written after.written)))
   -- at most one byte more than a script may have is read
   pub taken : (bytes : List ℕ) × (length bytes ≤ script_limit + 1) × Consumes before.left after.left bytes
   -- The load at the start names the first text that is no record, and none where there is none. Then, and where the keeper fails in the load, nothing is read or written, and the same is held.
@@ -77,8 +86,8 @@ pub record RunsReplay {S O : Type 0} (source source' : S) (sink sink' : O) (befo
       → IsComplete (Rose before.read_faults after.read_faults) (Rose before.write_faults after.write_faults) (Rose before.keeper_faults after.keeper_faults) result))
   pub known : result ≢ status.Words
 
--- source, sink and keeper, and what they tell, before and after
-abbrev pub Ran : {S O K : Type 0} → Option Command → (source source' : S) (sink sink' : O) (keeper keeper' : K) (before after : Seen) → Status → Type 0
-Ran None source source' sink sink' keeper keeper' before after result = IsUnknown source source' sink sink' keeper keeper' result
-Ran (Some Blocks) source source' sink sink' keeper keeper' before after result = RunsBlocks keeper keeper' before after result
-Ran (Some Replay) source source' sink sink' keeper keeper' before after result = RunsReplay source source' sink sink' before after result
+-- source, sink, keeper and signer, and what they tell, before and after
+abbrev pub Ran : {S O K G : Type 0} → Option Command → (source source' : S) (sink sink' : O) (keeper keeper' : K) (signer signer' : G) (before after : Seen) → Status → Type 0
+Ran None source source' sink sink' keeper keeper' signer signer' before after result = IsUnknown source source' sink sink' keeper keeper' signer signer' result
+Ran (Some Blocks) source source' sink sink' keeper keeper' signer signer' before after result = RunsBlocks keeper keeper' signer signer' before after result
+Ran (Some Replay) source source' sink sink' keeper keeper' signer signer' before after result = RunsReplay source source' sink sink' before after result

@@ -6,55 +6,66 @@ ghost use Rattle.script_loop.specs.Lines.{IsWithin};
 ghost use Rattle.spec_records.specs.Records.{record_limit};
 ghost use Rattle.context_store.specs.Stores.{Holds, IsFirstBad};
 ghost use Rattle.replay_world.specs.Worlds.{IsReady};
+ghost use Rattle.replay_runs.specs.Outsiders.{counts, meanings_told};
 ghost use Rattle.replay_runs.specs.Replays.{Leaves, WritesFront, OverRecords, AreHeld, IsComplete};
 ghost use Rattle.replay_runs.specs.Loads.{IsRefused, NamesBad, AtLoad, Untouched};
 ghost use Rattle.replay_runs.specs.Lines.{IsOfLines};
 
 use crate::status::Status;
 use context_store::OpenFault;
-use n32_outside::{Keeper, Sink, Source};
+use n32_outside::{Keeper, Signer, Sink, Source};
 use n32_values::{Bytes, NoMemory};
 use replay_world::{World, load_world, new_world, step};
 use script_loop::Machine;
 use std::alloc::Global;
 
-/// The machine of `replay`: the world that its events change, and the keeper of its records. It was lent both.
+/// The machine of `replay`: the world that its events change, the keeper of its records, and what signs for
+/// intermediaries. It was lent them all.
 #[derive(Drop)]
-pub struct Events<'a, K: Keeper> {
+pub struct Events<'a, K: Keeper, G: Signer> {
     world: &'a mut World,
     keeper: &'a mut K,
+    signer: &'a mut G,
 }
 
-impl<'a, K: Keeper> Machine for Events<'a, K> {
+impl<'a, K: Keeper, G: Signer> Machine for Events<'a, K, G> {
     ghost use Rattle.replay_world.specs.Worlds.{IsReady};
+    ghost use Rattle.replay_world.specs.Outsiders.{told, of_signer};
+    ghost use Rattle.replay_runs.specs.Outsiders.{counts};
     ghost use Rattle.replay_runs.specs.Lines.{AnswersLine, GivesUpLine, IsLater, later_refl, later_trans};
 
     ghost ready = { λ m. IsReady (K.held m.keeper.now) m.world.now };
 
-    ghost gives = { λ old number line text new. AnswersLine (K.held old.keeper.now) (K.held new.keeper.now)
-        (K.faults old.keeper.now) (K.faults new.keeper.now) old.world.now new.world.now number line text };
+    ghost gives = { λ old number line text new. AnswersLine
+        (told (K.held old.keeper.now) (K.faults old.keeper.now) (of_signer (G.algorithm old.signer.now) (G.meaning old.signer.now) (G.faults old.signer.now)))
+        (told (K.held new.keeper.now) (K.faults new.keeper.now) (of_signer (G.algorithm new.signer.now) (G.meaning new.signer.now) (G.faults new.signer.now)))
+        old.world.now new.world.now number line text };
 
-    ghost gives_up = { λ old number line new. GivesUpLine (K.held old.keeper.now) (K.held new.keeper.now)
-        (K.faults old.keeper.now) (K.faults new.keeper.now) old.world.now new.world.now line };
+    ghost gives_up = { λ old number line new. GivesUpLine
+        (told (K.held old.keeper.now) (K.faults old.keeper.now) (of_signer (G.algorithm old.signer.now) (G.meaning old.signer.now) (G.faults old.signer.now)))
+        (told (K.held new.keeper.now) (K.faults new.keeper.now) (of_signer (G.algorithm new.signer.now) (G.meaning new.signer.now) (G.faults new.signer.now)))
+        old.world.now new.world.now line };
 
-    ghost later = { λ old new. IsLater old.keeper.ghost_name new.keeper.ghost_name (K.faults old.keeper.now) (K.faults new.keeper.now) };
+    ghost later = { λ old new. IsLater old.keeper.ghost_name new.keeper.ghost_name old.signer.ghost_name new.signer.ghost_name
+        (counts (K.faults old.keeper.now) (G.faults old.signer.now)) (counts (K.faults new.keeper.now) (G.faults new.signer.now)) };
 
-    ghost stays = { λ m. later_refl m.keeper.ghost_name (K.faults m.keeper.now) };
+    ghost stays = { λ m. later_refl m.keeper.ghost_name m.signer.ghost_name (counts (K.faults m.keeper.now) (G.faults m.signer.now)) };
 
-    ghost goes_on = { λ a b c p q. later_trans a.keeper.ghost_name b.keeper.ghost_name c.keeper.ghost_name
-        (K.faults a.keeper.now) (K.faults b.keeper.now) (K.faults c.keeper.now) p q };
+    ghost goes_on = { λ a b c p q. later_trans a.keeper.ghost_name b.keeper.ghost_name c.keeper.ghost_name a.signer.ghost_name b.signer.ghost_name c.signer.ghost_name
+        (counts (K.faults a.keeper.now) (G.faults a.signer.now)) (counts (K.faults b.keeper.now) (G.faults b.signer.now)) (counts (K.faults c.keeper.now) (G.faults c.signer.now)) p q };
 
     fn answer(&mut self, alloc: Global, number: u64, line: &[u8]) -> Result<Bytes, NoMemory> {
-        step(alloc, self.world, number, line, self.keeper)
+        step(alloc, self.world, number, line, self.keeper, self.signer)
     }
 }
 
 // Answers each line of the script in a world whose records were read, and which has no node and no document yet.
-fn replay_lines<S: Source, O: Sink, K: Keeper>(
+fn replay_lines<S: Source, O: Sink, K: Keeper, G: Signer>(
     alloc: Global,
     source: &mut S,
     sink: &mut O,
     keeper: &mut K,
+    signer: &mut G,
     world: &mut World,
 ) -> Status
     requires ready { IsReady (K.held keeper.old) world.old }
@@ -62,8 +73,9 @@ fn replay_lines<S: Source, O: Sink, K: Keeper>(
     requires wire { world.old.wire ≡ [] }
     requires held { Holds (K.held keeper.old) world.old.store.records }
     requires few { length world.old.store.records ≤ record_limit }
-    ensures theorem { IfSome (S.left source.old) (λ script. OverRecords (K.held keeper.old) (λ records. Leaves script (S.left source.new)
-        records (K.held keeper.new) (K.faults keeper.old) (K.faults keeper.new) (O.written sink.old) (O.written sink.new) result)) }
+    ensures theorem { IfSome (meanings_told (G.algorithm signer.old) (G.meaning signer.old)) (λ means. IfSome (S.left source.old) (λ script. OverRecords (K.held keeper.old) (λ records.
+        Leaves means script (S.left source.new) records (K.held keeper.new) (counts (K.faults keeper.old) (G.faults signer.old)) (counts (K.faults keeper.new) (G.faults signer.new))
+        (O.written sink.old) (O.written sink.new) result))) }
     ensures complete { IfSome (S.left source.old) (λ script. IsWithin script
         → IsComplete (Rose (S.faults source.old) (S.faults source.new)) (Rose (O.faults sink.old) (O.faults sink.new)) ⊥ result) }
     ensures kind { IsOfLines result }
@@ -73,22 +85,29 @@ fn replay_lines<S: Source, O: Sink, K: Keeper>(
     ensures reading { S.faults source.old ≤ S.faults source.new }
     ensures writing { O.faults sink.old ≤ O.faults sink.new }
     ensures keeping { K.faults keeper.old ≤ K.faults keeper.new }
+    ensures signing { G.faults signer.old ≤ G.faults signer.new }
 {
-    let mut machine = Events { world, keeper };
+    let mut machine = Events {
+        world,
+        keeper,
+        signer,
+    };
     Status::from(script_loop::run(alloc, source, sink, &mut machine))
 }
 
 /// Reads the records that the keeper holds, and then answers the events of the source's script, line by line.
-pub(crate) fn replay<S: Source, O: Sink, K: Keeper>(
+pub(crate) fn replay<S: Source, O: Sink, K: Keeper, G: Signer>(
     alloc: Global,
     source: &mut S,
     sink: &mut O,
     keeper: &mut K,
+    signer: &mut G,
 ) -> Status
-    ensures theorem { IfSome (S.left source.old) (λ script. OverRecords (K.held keeper.old) (λ records. Leaves script (S.left source.new)
-        records (K.held keeper.new) (K.faults keeper.old) (K.faults keeper.new) (O.written sink.old) (O.written sink.new) result)) }
-    ensures front { IfSome (S.left source.old) (λ script. OverRecords (K.held keeper.old) (λ records.
-        WritesFront script records (O.written sink.old) (O.written sink.new))) }
+    ensures theorem { IfSome (meanings_told (G.algorithm signer.old) (G.meaning signer.old)) (λ means. IfSome (S.left source.old) (λ script. OverRecords (K.held keeper.old) (λ records.
+        Leaves means script (S.left source.new) records (K.held keeper.new) (counts (K.faults keeper.old) (G.faults signer.old)) (counts (K.faults keeper.new) (G.faults signer.new))
+        (O.written sink.old) (O.written sink.new) result))) }
+    ensures front { IfSome (meanings_told (G.algorithm signer.old) (G.meaning signer.old)) (λ means. IfSome (S.left source.old) (λ script. OverRecords (K.held keeper.old) (λ records.
+        WritesFront means script records (O.written sink.old) (O.written sink.new)))) }
     ensures journal { NamesBad (K.held keeper.old) result }
     ensures bad { IfSome (K.held keeper.old) (λ texts. (k : ℕ) → IsFirstBad texts k → IsRefused k result
         × Untouched source.old source.new sink.old sink.new (K.held keeper.old) (K.held keeper.new)) }
@@ -103,11 +122,12 @@ pub(crate) fn replay<S: Source, O: Sink, K: Keeper>(
     ensures reading { S.faults source.old ≤ S.faults source.new }
     ensures writing { O.faults sink.old ≤ O.faults sink.new }
     ensures keeping { K.faults keeper.old ≤ K.faults keeper.new }
+    ensures signing { G.faults signer.old ≤ G.faults signer.new }
     ensures named { result ≢ Status.Words }
 {
     let mut world = new_world(alloc);
     match load_world(alloc, &mut world, keeper) {
-        Ok(()) => replay_lines(alloc, source, sink, keeper, &mut world),
+        Ok(()) => replay_lines(alloc, source, sink, keeper, signer, &mut world),
         Err(OpenFault::Journal(number)) => Status::Journal(number),
         Err(OpenFault::Keeper) => Status::KeeperFault,
         Err(OpenFault::NoMemory) => Status::NoMemory,

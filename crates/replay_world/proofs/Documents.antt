@@ -1,5 +1,5 @@
 -- What sending and delivering leave of a world.
-use Rattle.std.proofs.Common.{◌≡◌, ◌+◌, ℕ, List, [], ◌∷◌, ◌++◌, length, Option, Some, None, Result, Ok, Err, refl, sym, ap, ap₂, subst, ◌∙◌, inr}
+use Rattle.std.proofs.Common.{◌≡◌, ◌+◌, ℕ, List, [], ◌∷◌, ◌++◌, length, true, false, is_some, Option, Result, Ok, Err, refl, sym, ap, ap₂, subst, ◌∙◌, inr}
 use Rattle.spec_documents.specs.Tree.{Tree}
 use Rattle.spec_messages.specs.Message.{Message}
 use Rattle.spec_records.specs.Records.{Record}
@@ -7,12 +7,15 @@ use Rattle.http_message.specs.Reading.{message_view}
 use Rattle.spec_exchange.specs.ReceivingRefusals as receiving
 use Rattle.spec_exchange.specs.SendingRefusals as sending
 use Rattle.spec_exchange.specs.Outside.{Choice, Journal, Keeper, Cause, Own, Outside}
-use Rattle.spec_exchange.specs.Calls.{Sealed, Asks, accepted, sends}
+use Rattle.spec_exchange.specs.Calls.{Sealed, Outgoing, accepted, sends}
 use Rattle.spec_exchange.specs.FirstFailed.{Delivery}
 use Rattle.spec_script.specs.Refusals.{OfSending, OfReceiving, of_cause}
-use Rattle.spec_script.specs.Events.{Inject}
+use Rattle.spec_script.specs.Events.{Inject, Reported}
+use Rattle.spec_script.specs.Reports.{report_on}
+use Rattle.spec_reports.specs.Report.{Report}
+use Rattle.spec_reports.specs.Document.{report_in}
 use Rattle.spec_script.specs.Answers.{answer_text}
-use Rattle.spec_script.specs.Steps.{State, Step, OnWire, Refuses, injects, step, delivers, delivery_answer, sends_sealed, sealed_answer, sealed_sent, with_sent}
+use Rattle.spec_script.specs.Steps.{State, Step, OnWire, Reports, Refuses, injects, forwards, reports, is_full, plmn_at, step, delivers, delivery_answer, sends_sealed, sealed_answer, sealed_sent, with_sent}
 use Rattle.sending_sepp.specs.Outcome as sent
 use Rattle.sending_sepp.specs.Sending.{refusal_view as sent_view}
 use Rattle.sending_sepp.specs.declared.fault.ProtectFault.{ProtectFault}
@@ -29,108 +32,154 @@ use Rattle.script_lines.specs.declared.refusal.Refusal.TheVariants as refusals
 use Rattle.context_store.specs.Changes.{CallBy}
 use Rattle.replay_world.specs.Refusing.{of_sending, of_receiving}
 use Rattle.replay_world.specs.Worlds.{sites_view, state_of}
-use Rattle.replay_world.specs.Stepping.{Makes, HasPut, GivesUp, Tells, Comes, StoreStays, Idles}
+use Rattle.replay_world.specs.Stepping.{Makes, HasPut, GivesUp, Tells, Comes}
+use Rattle.replay_world.specs.Outsiders.{unsigned}
+use Rattle.replay_world.specs.Wires.{HasMore}
 use Rattle.replay_world.specs.declared.world.World.{World}
-use Rattle.script_lines.specs.declared.unanswered.Unanswered.{Unanswered}
 use Rattle.script_lines.specs.declared.unanswered.Unanswered.TheVariants as unanswered
-use Rattle.replay_world.proofs.Parts.{by_call, gives_up_idly}
+use Rattle.replay_world.proofs.Parts.{Idles, stays_itself, by_call, gives_up_idly}
+use Rattle.replay_world.proofs.EventSteps.{given_goes_on, report_told}
 
 -- ---- delivering
 
-told_delivered : (number : ℕ) (text : List ℕ) (x : Delivered) (r : Result Delivery (Cause receiving.Refusal)) → received.Answers (Ok x) r → text ≡ texts.delivered_answer number (message_view x.message) x.id.value → Tells number (Ok text) (delivery_answer r)
-told_delivered number text x r a is =
-    subst (λ (z : Result Delivery (Cause receiving.Refusal)). Tells number (Ok text) (delivery_answer z)) (sym a.1) (is ∙ ap₂ (texts.delivered_answer number) a.2.message a.2.id, refl)
+told_delivered : (t : Tree) (number : ℕ) (text : List ℕ) (x : Delivered) (r : Result Delivery (Cause receiving.Refusal)) → received.Answers (Ok x) r → text ≡ texts.delivered_answer number (message_view x.message) x.id.value → Tells number (Ok text) (delivery_answer t r)
+told_delivered t number text x r a is =
+    subst (λ (z : Result Delivery (Cause receiving.Refusal)). Tells number (Ok text) (delivery_answer t z)) (sym a.1) (is ∙ ap₂ (texts.delivered_answer number) a.2.message a.2.id, refl)
 
 -- the wire and the nodes stay
 pub comes_delivered : (steps : State → Choice → Step) (held now : Option (List (List ℕ))) (old new : World) (number : ℕ) (text node : List ℕ) (t : Tree) (x : Delivered)
-    → received.Accepts held now old.store new.store node t (Ok x) → ((records : List Record) (f : Choice) → steps (state_of old records) f ≡ delivers (state_of old records) (accepted f records node t))
+    → received.Accepts held now old.store new.store node t (Ok x) → ((records : List Record) (f : Choice) → steps (state_of old records) f ≡ delivers (state_of old records) t (accepted f records node t))
     → new.sites ≡ old.sites → new.wire ≡ old.wire → text ≡ texts.delivered_answer number (message_view x.message) x.id.value → Comes steps held now old new number (Ok text)
 comes_delivered steps held now old new number text node t x h same sites wire is =
-    by_call (λ f records. accepted f records node t) (received.Answers (Ok x)) steps delivers held now old new.store (Makes (Tells number (Ok text)) held now old.wire new) h same
-    (λ records o a change. record { told = told_delivered number text x o.result a is; sites = ap sites_view sites; sent = wire; change = change })
+    by_call (λ f records. accepted f records node t) (received.Answers (Ok x)) steps (λ s o. delivers s t o) held now old new.store (Makes (Tells number (Ok text)) held now old.wire new) h same
+    (λ records o a change. record { told = told_delivered t number text x o.result a is; sites = ap sites_view sites; sent = wire; change = change })
 
 pub delivery_gives_up : (steps : State → Choice → Step) (held now : Option (List (List ℕ))) (old new : World) (node : List ℕ) (t : Tree) (x : Delivered)
-    → received.Accepts held now old.store new.store node t (Ok x) → ((records : List Record) (f : Choice) → steps (state_of old records) f ≡ delivers (state_of old records) (accepted f records node t))
+    → received.Accepts held now old.store new.store node t (Ok x) → ((records : List Record) (f : Choice) → steps (state_of old records) f ≡ delivers (state_of old records) t (accepted f records node t))
     → new.sites ≡ old.sites → new.wire ≡ old.wire → GivesUp steps held now old new
 delivery_gives_up steps held now old new node t x h same sites wire = record {
   sites = ap sites_view sites;
   wire = wire;
-  kept = inr (by_call (λ f records. accepted f records node t) (received.Answers (Ok x)) steps delivers held now old new.store (HasPut held now) h same (λ records o a change. change.told));
+  kept = inr (by_call (λ f records. accepted f records node t) (received.Answers (Ok x)) steps (λ s o. delivers s t o) held now old new.store (HasPut held now) h same (λ records r a change. change.told));
 }
 
 -- a document that is refused
 undelivered_by : (steps : State → Choice → Step) (held now : Option (List (List ℕ))) (old new : World) (number : ℕ) (node : List ℕ) (t : Tree) (e : AcceptFault) (c : Cause receiving.Refusal) (refusal : Refusal)
-    → ((r : Result Delivery (Cause receiving.Refusal)) → received.Answers (Err e) r → r ≡ Err c) → of_cause OfReceiving c ≡ refusal_view refusal
-    → CallBy (λ f records. accepted f records node t) (received.Answers (Err e)) held now old.store new.store → ((records : List Record) (f : Choice) → steps (state_of old records) f ≡ delivers (state_of old records) (accepted f records node t))
+    → ((r : Result Delivery (Cause receiving.Refusal)) → received.Answers (Err e) r → r ≡ Err c) → of_cause (λ d. OfReceiving d (report_on t d)) c ≡ refusal_view refusal
+    → CallBy (λ f records. accepted f records node t) (received.Answers (Err e)) held now old.store new.store → ((records : List Record) (f : Choice) → steps (state_of old records) f ≡ delivers (state_of old records) t (accepted f records node t))
     → new.sites ≡ old.sites → new.wire ≡ old.wire → Comes steps held now old new number (Err (unanswered.Refused refusal))
 undelivered_by steps held now old new number node t e c refusal is view h same sites wire =
-    by_call (λ f records. accepted f records node t) (received.Answers (Err e)) steps delivers held now old new.store (Makes (Tells number (Err (unanswered.Refused refusal))) held now old.wire new) h same
-    (λ records o a change. record { told = ap delivery_answer (is o.result a) ∙ ap Refuses view; sites = ap sites_view sites; sent = wire; change = change })
+    by_call (λ f records. accepted f records node t) (received.Answers (Err e)) steps (λ s o. delivers s t o) held now old new.store (Makes (Tells number (Err (unanswered.Refused refusal))) held now old.wire new) h same
+    (λ records o a change. record { told = ap (delivery_answer t) (is o.result a) ∙ ap Refuses view; sites = ap sites_view sites; sent = wire; change = change })
 
 pub comes_undelivered : (steps : State → Choice → Step) (held now : Option (List (List ℕ))) (old new : World) (number : ℕ) (node : List ℕ) (t : Tree) (e : AcceptFault)
-    → received.Accepts held now old.store new.store node t (Err e) → ((records : List Record) (f : Choice) → steps (state_of old records) f ≡ delivers (state_of old records) (accepted f records node t))
-    → new.sites ≡ old.sites → new.wire ≡ old.wire → Comes steps held now old new number (Err (of_receiving e))
-comes_undelivered steps held now old new number node t (accepting.Refused r) h same sites wire = undelivered_by steps held now old new number node t (accepting.Refused r) (Own (refused_view r)) (refusals.Receiving r) (λ r a. a) refl h same sites wire
+    → received.Accepts held now old.store new.store node t (Err e) → ((records : List Record) (f : Choice) → steps (state_of old records) f ≡ delivers (state_of old records) t (accepted f records node t))
+    → new.sites ≡ old.sites → new.wire ≡ old.wire → Comes steps held now old new number (Err (of_receiving t e))
+comes_undelivered steps held now old new number node t (accepting.Refused r) h same sites wire = undelivered_by steps held now old new number node t (accepting.Refused r) (Own (refused_view r)) (refusals.Receiving r (report_on t (refused_view r))) (λ r a. a) refl h same sites wire
 comes_undelivered steps held now old new number node t (accepting.Journal k) h same sites wire = undelivered_by steps held now old new number node t (accepting.Journal k) (Outside (Journal k)) (refusals.Journal k) (λ r a. a) refl h same sites wire
 comes_undelivered steps held now old new number node t accepting.Keeper h same sites wire = undelivered_by steps held now old new number node t accepting.Keeper (Outside Keeper) refusals.Keeper (λ r a. a) refl h same sites wire
 comes_undelivered steps held now old new number node t accepting.NoMemory h same sites wire = gives_up_idly steps held now old new sites wire h.told
 
+gives_up_by_call : (steps : State → Choice → Step) (held now : Option (List (List ℕ))) (old new : World) (node : List ℕ) (t : Tree) (e : AcceptFault)
+    → CallBy (λ f records. accepted f records node t) (received.Answers (Err e)) held now old.store new.store → ((records : List Record) (f : Choice) → steps (state_of old records) f ≡ delivers (state_of old records) t (accepted f records node t))
+    → new.sites ≡ old.sites → new.wire ≡ old.wire → GivesUp steps held now old new
+gives_up_by_call steps held now old new node t e h same sites wire = record {
+  sites = ap sites_view sites;
+  wire = wire;
+  kept = inr (by_call (λ f records. accepted f records node t) (received.Answers (Err e)) steps (λ s o. delivers s t o) held now old new.store (HasPut held now) h same (λ records o a change. change.told));
+}
+
+-- where memory was refused for a report, the document was refused
+pub refusal_gives_up : (steps : State → Choice → Step) (held now : Option (List (List ℕ))) (old new : World) (node : List ℕ) (t : Tree) (e : AcceptFault)
+    → received.Accepts held now old.store new.store node t (Err e) → ((records : List Record) (f : Choice) → steps (state_of old records) f ≡ delivers (state_of old records) t (accepted f records node t))
+    → new.sites ≡ old.sites → new.wire ≡ old.wire → GivesUp steps held now old new
+refusal_gives_up steps held now old new node t accepting.NoMemory h same sites wire = gives_up_idly steps held now old new sites wire h.told
+refusal_gives_up steps held now old new node t (accepting.Refused r) h same sites wire = gives_up_by_call steps held now old new node t (accepting.Refused r) h same sites wire
+refusal_gives_up steps held now old new node t (accepting.Journal k) h same sites wire = gives_up_by_call steps held now old new node t (accepting.Journal k) h same sites wire
+refusal_gives_up steps held now old new node t accepting.Keeper h same sites wire = gives_up_by_call steps held now old new node t accepting.Keeper h same sites wire
+
 -- ---- sending
 
-told_sealed : (number wire : ℕ) (text : List ℕ) (t : Tree) (r : Result Sealed (Cause sending.Refusal)) → sent.Answers (Ok t) r → text ≡ texts.sealed_answer number t wire → Tells number (Ok text) (sealed_answer wire r)
+told_sealed : (number wire : ℕ) (text : List ℕ) (t : Tree) (r : Result Sealed (Cause sending.Refusal)) → sent.Answers (Ok t) r → text ≡ texts.document_answer number t wire → Tells number (Ok text) (sealed_answer wire r)
 told_sealed number wire text t r a is =
-    subst (λ (z : Result Sealed (Cause sending.Refusal)). Tells number (Ok text) (sealed_answer wire z)) (sym a.1) (is ∙ ap (λ (d : Tree). texts.sealed_answer number d wire) a.2, refl)
+    subst (λ (z : Result Sealed (Cause sending.Refusal)). Tells number (Ok text) (sealed_answer wire z)) (sym a.1) (is ∙ ap (λ (d : Tree). texts.document_answer number d wire) a.2, refl)
 
 sent_sealed : (wire : List Tree) (t : Tree) (r : Result Sealed (Cause sending.Refusal)) → sent.Answers (Ok t) r → wire ++ t ∷ [] ≡ with_sent wire (sealed_sent r)
 sent_sealed wire t r a = ap (λ (d : Tree). wire ++ d ∷ []) a.2 ∙ ap (λ (z : Result Sealed (Cause sending.Refusal)). with_sent wire (sealed_sent z)) (sym a.1)
 
 -- the document goes last on the wire
-pub comes_sealed : (steps : State → Choice → Step) (held now : Option (List (List ℕ))) (old new : World) (number : ℕ) (text node : List ℕ) (id : ℕ) (m : Message) (t : Tree)
-    → sent.Protects held now old.store new.store node id m (Ok t) → ((records : List Record) (f : Choice) → steps (state_of old records) f ≡ sends_sealed (state_of old records) (sends f records node id Asks m))
-    → new.sites ≡ old.sites → new.wire ≡ old.wire ++ t ∷ [] → text ≡ texts.sealed_answer number t (length old.wire + 1) → Comes steps held now old new number (Ok text)
-comes_sealed steps held now old new number text node id m t h same sites wire is =
-    by_call (λ f records. sends f records node id Asks m) (sent.Answers (Ok t)) steps sends_sealed held now old new.store (Makes (Tells number (Ok text)) held now old.wire new) h same
-    (λ records o a change. record { told = told_sealed number (length old.wire + 1) text t o.result a is; sites = ap sites_view sites; sent = wire ∙ sent_sealed old.wire t o.result a; change = change })
+pub comes_sealed : (o : Outgoing) (steps : State → Choice → Step) (held now : Option (List (List ℕ))) (old new : World) (number : ℕ) (text node : List ℕ) (id : ℕ) (m : Message) (t : Tree)
+    → sent.ProtectsAs o held now old.store new.store node id m (Ok t) → ((records : List Record) (f : Choice) → steps (state_of old records) f ≡ sends_sealed (state_of old records) (sends f records node id o m))
+    → new.sites ≡ old.sites → new.wire ≡ old.wire ++ t ∷ [] → text ≡ texts.document_answer number t (length old.wire + 1) → Comes steps held now old new number (Ok text)
+comes_sealed o steps held now old new number text node id m t h same sites wire is =
+    by_call (λ f records. sends f records node id o m) (sent.Answers (Ok t)) steps sends_sealed held now old new.store (Makes (Tells number (Ok text)) held now old.wire new) h same
+    (λ records r a change. record { told = told_sealed number (length old.wire + 1) text t r.result a is; sites = ap sites_view sites; sent = wire ∙ sent_sealed old.wire t r.result a; change = change })
 
-pub sealing_gives_up : (steps : State → Choice → Step) (held now : Option (List (List ℕ))) (old new : World) (node : List ℕ) (id : ℕ) (m : Message) (t : Tree)
-    → sent.Protects held now old.store new.store node id m (Ok t) → ((records : List Record) (f : Choice) → steps (state_of old records) f ≡ sends_sealed (state_of old records) (sends f records node id Asks m))
+pub sealing_gives_up : (o : Outgoing) (steps : State → Choice → Step) (held now : Option (List (List ℕ))) (old new : World) (node : List ℕ) (id : ℕ) (m : Message) (t : Tree)
+    → sent.ProtectsAs o held now old.store new.store node id m (Ok t) → ((records : List Record) (f : Choice) → steps (state_of old records) f ≡ sends_sealed (state_of old records) (sends f records node id o m))
     → new.sites ≡ old.sites → new.wire ≡ old.wire → GivesUp steps held now old new
-sealing_gives_up steps held now old new node id m t h same sites wire = record {
+sealing_gives_up o steps held now old new node id m t h same sites wire = record {
   sites = ap sites_view sites;
   wire = wire;
-  kept = inr (by_call (λ f records. sends f records node id Asks m) (sent.Answers (Ok t)) steps sends_sealed held now old new.store (HasPut held now) h same (λ records o a change. change.told));
+  kept = inr (by_call (λ f records. sends f records node id o m) (sent.Answers (Ok t)) steps sends_sealed held now old new.store (HasPut held now) h same (λ records r a change. change.told));
 }
 
 unsent_sealed : (wire : List Tree) (c : Cause sending.Refusal) (r : Result Sealed (Cause sending.Refusal)) → r ≡ Err c → wire ≡ with_sent wire (sealed_sent r)
 unsent_sealed wire c r h = ap (λ (z : Result Sealed (Cause sending.Refusal)). with_sent wire (sealed_sent z)) (sym h)
 
 -- a request that is refused
-unsealed_by : (steps : State → Choice → Step) (held now : Option (List (List ℕ))) (old new : World) (number : ℕ) (node : List ℕ) (id : ℕ) (m : Message) (e : ProtectFault) (c : Cause sending.Refusal) (refusal : Refusal)
+unsealed_by : (o : Outgoing) (steps : State → Choice → Step) (held now : Option (List (List ℕ))) (old new : World) (number : ℕ) (node : List ℕ) (id : ℕ) (m : Message) (e : ProtectFault) (c : Cause sending.Refusal) (refusal : Refusal)
     → ((r : Result Sealed (Cause sending.Refusal)) → sent.Answers (Err e) r → r ≡ Err c) → of_cause OfSending c ≡ refusal_view refusal
-    → CallBy (λ f records. sends f records node id Asks m) (sent.Answers (Err e)) held now old.store new.store → ((records : List Record) (f : Choice) → steps (state_of old records) f ≡ sends_sealed (state_of old records) (sends f records node id Asks m))
+    → CallBy (λ f records. sends f records node id o m) (sent.Answers (Err e)) held now old.store new.store → ((records : List Record) (f : Choice) → steps (state_of old records) f ≡ sends_sealed (state_of old records) (sends f records node id o m))
     → new.sites ≡ old.sites → new.wire ≡ old.wire → Comes steps held now old new number (Err (unanswered.Refused refusal))
-unsealed_by steps held now old new number node id m e c refusal is view h same sites wire =
-    by_call (λ f records. sends f records node id Asks m) (sent.Answers (Err e)) steps sends_sealed held now old new.store (Makes (Tells number (Err (unanswered.Refused refusal))) held now old.wire new) h same
-    (λ records o a change. record { told = ap (sealed_answer (length old.wire + 1)) (is o.result a) ∙ ap Refuses view; sites = ap sites_view sites; sent = wire ∙ unsent_sealed old.wire c o.result (is o.result a); change = change })
+unsealed_by o steps held now old new number node id m e c refusal is view h same sites wire =
+    by_call (λ f records. sends f records node id o m) (sent.Answers (Err e)) steps sends_sealed held now old new.store (Makes (Tells number (Err (unanswered.Refused refusal))) held now old.wire new) h same
+    (λ records r a change. record { told = ap (sealed_answer (length old.wire + 1)) (is r.result a) ∙ ap Refuses view; sites = ap sites_view sites; sent = wire ∙ unsent_sealed old.wire c r.result (is r.result a); change = change })
 
-pub comes_unsealed : (steps : State → Choice → Step) (held now : Option (List (List ℕ))) (old new : World) (number : ℕ) (node : List ℕ) (id : ℕ) (m : Message) (e : ProtectFault)
-    → sent.Protects held now old.store new.store node id m (Err e) → ((records : List Record) (f : Choice) → steps (state_of old records) f ≡ sends_sealed (state_of old records) (sends f records node id Asks m))
+pub comes_unsealed : (o : Outgoing) (steps : State → Choice → Step) (held now : Option (List (List ℕ))) (old new : World) (number : ℕ) (node : List ℕ) (id : ℕ) (m : Message) (e : ProtectFault)
+    → sent.ProtectsAs o held now old.store new.store node id m (Err e) → ((records : List Record) (f : Choice) → steps (state_of old records) f ≡ sends_sealed (state_of old records) (sends f records node id o m))
     → new.sites ≡ old.sites → new.wire ≡ old.wire → Comes steps held now old new number (Err (of_sending e))
-comes_unsealed steps held now old new number node id m (protecting.Refused r) h same sites wire = unsealed_by steps held now old new number node id m (protecting.Refused r) (Own (sent_view r)) (refusals.Sending r) (λ r a. a) refl h same sites wire
-comes_unsealed steps held now old new number node id m (protecting.Journal k) h same sites wire = unsealed_by steps held now old new number node id m (protecting.Journal k) (Outside (Journal k)) (refusals.Journal k) (λ r a. a) refl h same sites wire
-comes_unsealed steps held now old new number node id m protecting.Keeper h same sites wire = unsealed_by steps held now old new number node id m protecting.Keeper (Outside Keeper) refusals.Keeper (λ r a. a) refl h same sites wire
-comes_unsealed steps held now old new number node id m protecting.NoMemory h same sites wire = gives_up_idly steps held now old new sites wire h.told
+comes_unsealed o steps held now old new number node id m (protecting.Refused r) h same sites wire = unsealed_by o steps held now old new number node id m (protecting.Refused r) (Own (sent_view r)) (refusals.Sending r) (λ r a. a) refl h same sites wire
+comes_unsealed o steps held now old new number node id m (protecting.Journal k) h same sites wire = unsealed_by o steps held now old new number node id m (protecting.Journal k) (Outside (Journal k)) (refusals.Journal k) (λ r a. a) refl h same sites wire
+comes_unsealed o steps held now old new number node id m protecting.Keeper h same sites wire = unsealed_by o steps held now old new number node id m protecting.Keeper (Outside Keeper) refusals.Keeper (λ r a. a) refl h same sites wire
+comes_unsealed o steps held now old new number node id m protecting.NoMemory h same sites wire = gives_up_idly steps held now old new sites wire h.told
 
 -- ---- putting on the wire
 
-pub idles_injected : (old new : World) (number place : ℕ) (text : List ℕ) (t : Tree) → place ≡ length old.wire + 1 → text ≡ answer_text number (OnWire place) → new.sites ≡ old.sites → new.wire ≡ old.wire ++ t ∷ [] → StoreStays old.store new.store
-    → Idles (λ s f. step s f (Inject t)) old new number (Ok text)
-idles_injected old new number place text t at is sites wire store = record {
+-- what stood on the wire, and one document more
+pub idles_given : (old new : World) (number : ℕ) (text : List ℕ) (t : Tree) → is_full old.wire ≡ false → text ≡ answer_text number (OnWire (length old.wire + 1)) → HasMore old new t
+    → Idles (λ s f. step s (unsigned f) (Inject t)) old new number (Ok text)
+idles_given old new number text t room is more = record {
   step = injects (state_of old []) t;
-  same = λ records f. refl;
+  same = λ records f. given_goes_on (state_of old records) (unsigned f) t room;
   puts_none = refl;
-  told = (is ∙ ap (λ (n : ℕ). answer_text number (OnWire n)) at, refl);
-  sites = ap sites_view sites;
-  wire = wire;
-  store = store;
+  told = (is, refl);
+  sites = ap sites_view (more.sites);
+  wire = more.wire;
+  store = rw (more.store) (stays_itself old.store);
+}
+
+pub idles_made : (steps : State → Choice → Step) (old new : World) (number : ℕ) (text : List ℕ) (t : Tree) → ((records : List Record) (f : Choice) → steps (state_of old records) f ≡ forwards (state_of old records) t)
+    → text ≡ texts.document_answer number t (length old.wire + 1) → HasMore old new t → Idles steps old new number (Ok text)
+idles_made steps old new number text t same is more = record {
+  step = forwards (state_of old []) t;
+  same = same;
+  puts_none = refl;
+  told = (is, refl);
+  sites = ap sites_view (more.sites);
+  wire = more.wire;
+  store = rw (more.store) (stays_itself old.store);
+}
+
+-- a report that is read
+pub idles_reported : (old : World) (number : ℕ) (text : List ℕ) (node : List ℕ) (t : Tree) (r : Report) → is_some (plmn_at (sites_view old.sites) node) ≡ true → report_in t ≡ Ok r → text ≡ answer_text number (Reports r)
+    → Idles (λ s f. step s (unsigned f) (Reported node t)) old old number (Ok text)
+idles_reported old number text node t r known good is = record {
+  step = reports (state_of old []) r;
+  same = λ records f. report_told (state_of old records) (unsigned f) node t r known good;
+  puts_none = refl;
+  told = (is, refl);
+  sites = refl;
+  wire = refl;
+  store = stays_itself old.store;
 }

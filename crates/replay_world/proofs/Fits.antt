@@ -1,14 +1,15 @@
 -- What is known of an event that a document is of: its names are in their grammar, and a document in it is less deep.
 use Rattle.std.proofs.Common.{◌≡◌, ◌≤◌, ℕ, List, Bool, true, false, ◌&&◌, cond, Option, Some, None, Result, Ok, Err, refl, subst, IsTrue, bytes_eq, codes, arith}
 use Rattle.std.specs.Prelude.{unwrap_or}
-use Rattle.spec_documents.specs.Tree.{Tree, null, truth, whole, words, items, members, Members, get_member, depth, members_depth}
+use Rattle.spec_documents.specs.Tree.{Tree, null, truth, whole, words, items, no_items, members, Members, get_member, depth, members_depth}
 use Rattle.spec_documents.specs.Place.{◌>>=◌}
 use Rattle.spec_documents.specs.Text.{is_node_name}
 use Rattle.spec_messages.specs.Message.{wanted, any_text, text_in}
 use Rattle.spec_records.specs.RecordDocument.{ipx_in, are_ipx}
 use Rattle.spec_records.proofs.NameLemmas.{passes, ipx_named}
 use Rattle.spec_documents.proofs.TreeLemmas.{got_low}
-use Rattle.spec_script.specs.Events.{Event, AddNode, AddContext, AddKeys, Send, Inject, Deliver, Restart, read_at, node_in, id_in, plmn_in, suite_in, any_value, whole_in, pair_in, first_in, answers_in, node_event, context_event, keys_event, send_event, inject_event, deliver_event, restart_event, event_named, event_of}
+use Rattle.spec_script.specs.Events.{Event, AddNode, AddContext, AddKeys, Send, Inject, Deliver, Restart, Pass, Alter, Reported, read_at, node_in, id_in, plmn_in, suite_in, any_value, whole_in, pair_in, first_in, answers_in, identity_in, passed_in, ops_in, pass_event, alter_event, reported_event, node_event, context_event, keys_event, send_event, inject_event, deliver_event, restart_event, event_named, event_of}
+use Rattle.replay_world.specs.Worlds.{IsShallow}
 use Rattle.replay_world.specs.Fitting.{IsFit}
 
 -- ---- members
@@ -104,6 +105,30 @@ restart_fits ms =
     bind_fits (read_at node_in (codes "node") ms) _ λ node a.
     ok_fits (Restart node) tt
 
+pass_fits : (ms : Members) → members_depth ms ≤ 126 → AllFit (pass_event ms)
+pass_fits ms low =
+    bind_fits (read_at identity_in (codes "ipx") ms) _ λ ipx a.
+    bind_fits (read_at whole_in (codes "wire") ms) _ λ wire b.
+    bind_fits (read_at passed_in (codes "operations") ms) _ λ operations c.
+    ok_fits (Pass ipx wire operations) (passed_low (get_member (codes "operations") ms) refl operations (is_some_of (passed_in (get_member (codes "operations") ms)) (codes "operations") operations c))
+  where
+    passed_low : (o : Option Tree) → get_member (codes "operations") ms ≡ o → (operations : Tree) → passed_in o ≡ Some operations → IsShallow operations
+    passed_low None e operations is = let same : items no_items ≡ operations = cc in subst (λ (t : Tree). IsShallow t) same (let one : depth (items no_items) ≡ 1 = refl in omega (arith, one))
+    passed_low (Some t) e operations is = let same : t ≡ operations = cc in let there = got_low (codes "operations") t ms e in subst (λ (t : Tree). IsShallow t) same (omega (arith, there, low))
+
+alter_fits : (ms : Members) → AllFit (alter_event ms)
+alter_fits ms =
+    bind_fits (read_at whole_in (codes "wire") ms) _ λ wire a.
+    bind_fits (read_at ops_in (codes "operations") ms) _ λ operations b.
+    ok_fits (Alter wire operations) tt
+
+reported_fits : (ms : Members) → members_depth ms ≤ 126 → AllFit (reported_event ms)
+reported_fits ms low =
+    bind_fits (read_at node_in (codes "node") ms) _ λ node a.
+    bind_fits (read_at any_value (codes "document") ms) _ λ document b.
+    let there = got_low (codes "document") document ms (is_some_of (get_member (codes "document") ms) (codes "document") document b) in
+    ok_fits (Reported node document) (omega (arith, there, low))
+
 named_fits : (name : List ℕ) (ms : Members) → members_depth ms ≤ 126 → AllFit (event_named name ms)
 named_fits name ms low =
     cond_fits (bytes_eq name (codes "node")) _ _ (node_fits ms)
@@ -112,7 +137,10 @@ named_fits name ms low =
     (cond_fits (bytes_eq name (codes "send")) _ _ (send_fits ms)
     (cond_fits (bytes_eq name (codes "inject")) _ _ (inject_fits ms low)
     (cond_fits (bytes_eq name (codes "deliver")) _ _ (deliver_fits ms)
-    (cond_fits (bytes_eq name (codes "restart")) _ _ (restart_fits ms) (err_fits (codes "do"))))))))
+    (cond_fits (bytes_eq name (codes "restart")) _ _ (restart_fits ms)
+    (cond_fits (bytes_eq name (codes "pass")) _ _ (pass_fits ms low)
+    (cond_fits (bytes_eq name (codes "alter")) _ _ (alter_fits ms)
+    (cond_fits (bytes_eq name (codes "reported")) _ _ (reported_fits ms low) (err_fits (codes "do")))))))))))
 
 tree_fits : (t : Tree) → depth t ≤ 127 → AllFit (event_of t)
 tree_fits null low = err_fits (codes "do")

@@ -1,5 +1,5 @@
 -- A step over the records that are held.
-use Rattle.std.proofs.Common.{◌≡◌, ℕ, List, [], ◌∷◌, ◌++◌, Option, Some, None, IfOk, Result, Ok, Err, refl, sym, subst, ◌∙◌}
+use Rattle.std.proofs.Common.{◌≡◌, true, IfSome, ℕ, List, [], ◌∷◌, ◌++◌, Option, Some, None, IfOk, Result, Ok, Err, refl, sym, subst, ◌∙◌}
 use Rattle.spec_documents.specs.Tree.{Tree}
 use Rattle.spec_documents.specs.Reading.{ReadsTo}
 use Rattle.n32_values.specs.declared.memory.NoMemory.{NoMemory}
@@ -8,14 +8,19 @@ use Rattle.context_records.specs.Reading.{ReadsRecord, written}
 use Rattle.context_store.specs.Stores.{AreRecords, IsFirstBad}
 use Rattle.context_store.specs.Changes.{Keeps}
 use Rattle.spec_exchange.specs.Outside.{Choice, Reading, Read, ReadFails, BadRecord, with_put}
+use Rattle.n32_outside.specs.Causes.{Rose}
 use Rattle.spec_script.specs.Events.{line_event}
+use Rattle.spec_script.specs.Refusals.{Syntax, OtherNumber, BadEvent, NodeUnknown, NodeExists, WireUnknown, Beyond, KeysTwice, ContextNotFound, BadMessage, DeepBody, BadPolicy, ContextUsed, BadForm, BadReport, OfSending, OfReceiving, OfOutside, SignerFailed}
+use Rattle.spec_script.specs.Choices.{Signing, Signs, SignerFails}
+use Rattle.spec_script.specs.Output.{has_refusal, is_signer_refusal}
+use Rattle.replay_world.specs.Outsiders.{OfSigner, Told, IsMeant, Signed, by}
 use Rattle.spec_script.specs.Steps as spec
-use Rattle.spec_script.specs.Steps.{State, Step, Refuses, after, with_sent, line_step}
+use Rattle.spec_script.specs.Steps.{State, Answer, Fine, OnWire, Sends, Forwards, Delivers, Reports, Step, Refuses, after, with_sent, line_step}
 use Rattle.replay_world.specs.Worlds.{sites_view, state_of, TellsRecords, StepsOver, Steps}
 use Rattle.replay_world.specs.Stepping.{StepBy, Makes, TellsText, LineComes}
 use Rattle.replay_world.specs.declared.world.World.{World}
 use Rattle.replay_world.proofs.Unread.{line_same}
-use Rattle.replay_world.proofs.Journals.{line_tells}
+use Rattle.replay_world.proofs.Journals.{line_tells, line_signs}
 
 -- ---- texts are of one list of records
 
@@ -55,18 +60,54 @@ record Leaves (texts : List (List ℕ)) (now : Option (List (List ℕ))) (before
 state_is : (new : World) (sites : List spec.Site) (wire : List Tree) (records : List Record) → sites_view new.sites ≡ sites → new.wire ≡ wire → state_of new records ≡ record { sites = sites; wire = wire; records = records }
 state_is new sites wire records p q = rw (p, q) refl
 
-steps_from : (texts : List (List ℕ)) (now : Option (List (List ℕ))) (before after_ : ℕ) (old new : World) (records : List Record) (f : Choice) (number : ℕ) (line text : List ℕ)
-    → AreRecords texts records → Leaves texts now before after_ old new number text (line_step (state_of old records) f line) → ((k : ℕ) → f.reading ≡ BadRecord k → IsFirstBad texts k)
-    → StepsOver now before after_ old new texts records number line text
-steps_from texts now before after_ old new records f number line text are h bad =
-    let r = line_step (state_of old records) f line in
+-- one refusal tells of the signer
+signer_alone : (a : Answer) → has_refusal is_signer_refusal a ≡ true → a ≡ Refuses SignerFailed
+signer_alone (Fine name) h = cc
+signer_alone (OnWire n) h = cc
+signer_alone (Sends x n) h = cc
+signer_alone (Forwards t n) h = cc
+signer_alone (Delivers d) h = cc
+signer_alone (Reports r) h = cc
+signer_alone (Refuses Syntax) h = cc
+signer_alone (Refuses OtherNumber) h = cc
+signer_alone (Refuses (BadEvent member)) h = cc
+signer_alone (Refuses NodeUnknown) h = cc
+signer_alone (Refuses NodeExists) h = cc
+signer_alone (Refuses WireUnknown) h = cc
+signer_alone (Refuses (Beyond limit)) h = cc
+signer_alone (Refuses KeysTwice) h = cc
+signer_alone (Refuses ContextNotFound) h = cc
+signer_alone (Refuses (BadMessage member)) h = cc
+signer_alone (Refuses DeepBody) h = cc
+signer_alone (Refuses (BadPolicy mapping)) h = cc
+signer_alone (Refuses ContextUsed) h = cc
+signer_alone (Refuses (BadForm member)) h = cc
+signer_alone (Refuses BadReport) h = cc
+signer_alone (Refuses (OfSending refusal)) h = cc
+signer_alone (Refuses (OfReceiving refusal report)) h = cc
+signer_alone (Refuses (OfOutside fault)) h = cc
+signer_alone (Refuses SignerFailed) h = refl
+
+-- a signing that fails is meant only where the count rose
+rose_of : (before after_ : OfSigner) (x : Signing) → IsMeant before.algorithm before.meaning before.faults after_.faults x → x ≡ SignerFails → Rose before.faults after_.faults
+rose_of before after_ SignerFails meant is = meant
+rose_of before after_ (Signs g) meant is = cc
+
+steps_from : (texts : List (List ℕ)) (before after_ : Told) (old new : World) (records : List Record) (x : Signing) (f : Choice) (number : ℕ) (line text : List ℕ)
+    → IsMeant before.signer.algorithm before.signer.meaning before.signer.faults after_.signer.faults x
+    → AreRecords texts records → Leaves texts after_.held before.keeper_faults after_.keeper_faults old new number text (line_step (state_of old records) (by x f) line) → ((k : ℕ) → f.reading ≡ BadRecord k → IsFirstBad texts k)
+    → StepsOver before after_ old new texts records number line text
+steps_from texts before after_ old new records x f number line text meant are h bad =
+    let r = line_step (state_of old records) (by x f) line in
     record {
-      choice = f;
+      choice = by x f;
+      meant = meant;
       text_is = h.told.text_is;
       state_is = state_is new r.sites (with_sent old.wire r.sent) (with_put records r.put) h.sites h.sent;
-      held_is = tells_put texts now records r.put are h.kept;
+      held_is = tells_put texts after_.held records r.put are h.kept;
       failed = h.told.failed;
-      journal = λ k e. bad k (line_tells (state_of old records) f line k e);
+      unsigned = λ e. rose_of before.signer after_.signer x meant (line_signs (state_of old records) (by x f) line (signer_alone r.answer e));
+      journal = λ k e. bad k (line_tells (state_of old records) (by x f) line k e);
     }
 
 leaves_from : (texts : List (List ℕ)) (now : Option (List (List ℕ))) (before after_ : ℕ) (old new : World) (number : ℕ) (text : List ℕ) (rs : List Record) (r : Step)
@@ -74,29 +115,37 @@ leaves_from : (texts : List (List ℕ)) (now : Option (List (List ℕ))) (before
 leaves_from texts now before after_ old new number text rs r h = record { told = h.told; sites = h.sites; sent = h.sent; kept = h.change.told }
 
 -- whichever records a step went by, it is one over those that are held
-over_held : (texts : List (List ℕ)) (now : Option (List (List ℕ))) (before after_ : ℕ) (old new : World) (records : List Record) (number : ℕ) (line text : List ℕ) → AreRecords texts records
-    → StepBy (λ s f. line_step s f line) (Some texts) old (Makes (TellsText before after_ number text) (Some texts) now old.wire new) → StepsOver now before after_ old new texts records number line text
-over_held texts now before after_ old new records number line text are h = by_reading h.choice.reading refl
+over_held : (texts : List (List ℕ)) (before after_ : Told) (old new : World) (records : List Record) (x : Signing) (number : ℕ) (line text : List ℕ)
+    → IsMeant before.signer.algorithm before.signer.meaning before.signer.faults after_.signer.faults x → AreRecords texts records
+    → StepBy (λ s f. line_step s (by x f) line) (Some texts) old (Makes (TellsText before.keeper_faults after_.keeper_faults number text) (Some texts) after_.held old.wire new) → StepsOver before after_ old new texts records number line text
+over_held texts before after_ old new records x number line text meant are h = by_reading h.choice.reading refl
   where
-    unread : (h.choice.reading ≡ Read → ⊥) → StepsOver now before after_ old new texts records number line text
+    unread : (h.choice.reading ≡ Read → ⊥) → StepsOver before after_ old new texts records number line text
     unread not_read =
-        let same = line_same (sites_view old.sites) old.wire h.records records h.choice not_read (line_event line) in
-        steps_from texts now before after_ old new records h.choice number line text are
-        (subst (λ (r : Step). Leaves texts now before after_ old new number text r) same.is (leaves_from texts now before after_ old new number text h.records (line_step (state_of old h.records) h.choice line) h.leaves))
+        let same = line_same (sites_view old.sites) old.wire h.records records (by x h.choice) not_read (line_event line) in
+        steps_from texts before after_ old new records x h.choice number line text meant are
+        (subst (λ (r : Step). Leaves texts after_.held before.keeper_faults after_.keeper_faults old new number text r) same.is (leaves_from texts after_.held before.keeper_faults after_.keeper_faults old new number text h.records (line_step (state_of old h.records) (by x h.choice) line) h.leaves))
         h.chosen.bad
 
-    by_reading : (reading : Reading) → h.choice.reading ≡ reading → StepsOver now before after_ old new texts records number line text
+    by_reading : (reading : Reading) → h.choice.reading ≡ reading → StepsOver before after_ old new texts records number line text
     by_reading Read e =
         let same : h.records ≡ records = are_one texts h.records records (h.chosen.read e) are in
-        steps_from texts now before after_ old new records h.choice number line text are
-        (subst (λ (rs : List Record). Leaves texts now before after_ old new number text (line_step (state_of old rs) h.choice line)) same (leaves_from texts now before after_ old new number text h.records (line_step (state_of old h.records) h.choice line) h.leaves))
+        steps_from texts before after_ old new records x h.choice number line text meant are
+        (subst (λ (rs : List Record). Leaves texts after_.held before.keeper_faults after_.keeper_faults old new number text (line_step (state_of old rs) (by x h.choice) line)) same (leaves_from texts after_.held before.keeper_faults after_.keeper_faults old new number text h.records (line_step (state_of old h.records) (by x h.choice) line) h.leaves))
         h.chosen.bad
     by_reading ReadFails e = unread (λ r. cc)
     by_reading (BadRecord n) e = unread (λ r. cc)
 
-pub steps_told : (held now : Option (List (List ℕ))) (before after_ : ℕ) (old new : World) (number : ℕ) (line : List ℕ) (result : Result (List ℕ) NoMemory) → LineComes held now before after_ old new number line result
-    → IfOk result (λ text. Steps held now before after_ old new number line text)
-steps_told None now before after_ old new number line (Ok text) h = tt
-steps_told None now before after_ old new number line (Err e) h = tt
-steps_told (Some texts) now before after_ old new number line (Ok text) h = λ records are. over_held texts now before after_ old new records number line text are h
-steps_told (Some texts) now before after_ old new number line (Err e) h = tt
+steps_held : (held : Option (List (List ℕ))) (before after_ : Told) (old new : World) (x : Signing) (number : ℕ) (line : List ℕ) (result : Result (List ℕ) NoMemory)
+    → IsMeant before.signer.algorithm before.signer.meaning before.signer.faults after_.signer.faults x
+    → LineComes x held after_.held before.keeper_faults after_.keeper_faults old new number line result
+    → IfOk result (λ text. IfSome held (λ texts. (records : List Record) → AreRecords texts records → StepsOver before after_ old new texts records number line text))
+steps_held None before after_ old new x number line (Ok text) meant h = tt
+steps_held None before after_ old new x number line (Err e) meant h = tt
+steps_held (Some texts) before after_ old new x number line (Ok text) meant h = λ records are. over_held texts before after_ old new records x number line text meant are h
+steps_held (Some texts) before after_ old new x number line (Err e) meant h = tt
+
+pub steps_told : (before after_ : Told) (old new : World) (number : ℕ) (line : List ℕ) (result : Result (List ℕ) NoMemory)
+    → Signed before.signer after_.signer (λ x. LineComes x before.held after_.held before.keeper_faults after_.keeper_faults old new number line result)
+    → IfOk result (λ text. Steps before after_ old new number line text)
+steps_told before after_ old new number line result h = steps_held before.held before after_ old new h.signing number line result h.meant h.holds

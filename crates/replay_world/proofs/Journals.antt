@@ -1,23 +1,26 @@
--- A record that is none is told only where the keeper's records are read.
-use Rattle.std.proofs.Common.{◌≡◌, ℕ, List, Bool, true, false, cond, nat_le, Option, Some, None, Result, Ok, Err, refl, ap, subst}
+-- A record that is none is told only where the keeper's records are read, and a fault of the signer only where it is asked and fails.
+use Rattle.std.proofs.Common.{◌≡◌, ℕ, List, [], ◌∷◌, Bool, true, false, cond, nat_le, Option, Some, None, Result, Ok, Err, refl, ap, subst}
 use Rattle.spec_documents.specs.Tree.{Tree}
-use Rattle.spec_messages.specs.Message.{Message, Member, message_of, body_depth, wanted}
+use Rattle.spec_messages.specs.Message.{Message, Member, Kind, of_request, of_response, kind_of, message_of, body_depth, wanted}
 use Rattle.spec_records.specs.Records.{KeySet, Context, Record}
 use Rattle.spec_exchange.specs.Chain.{◌>>=◌, unless, or_refused}
 use Rattle.spec_exchange.specs.ReceivingRefusals as receiving
 use Rattle.spec_exchange.specs.SendingRefusals as sending
-use Rattle.spec_exchange.specs.Outside.{Choice, Journal, Cause, Own, Outside, Reading, Read, ReadFails, BadRecord, Putting, Kept, Lost, KeptUntold, Outcome, behind_reading, or_refusal}
+use Rattle.spec_exchange.specs.Outside.{Journal, Cause, Own, Outside, Reading, Read, ReadFails, BadRecord, Putting, Kept, Lost, KeptUntold, Outcome, behind_reading, or_refusal}
 use Rattle.spec_exchange.specs.Outside as outside
 use Rattle.spec_exchange.specs.FirstFailed.{Delivery, first_failed}
-use Rattle.spec_exchange.specs.Calls.{Sealed, Asks, delivered_record, sent_record, protected}
-use Rattle.spec_script.specs.Refusals.{Refusal, DeepBody, OfOutside}
+use Rattle.spec_exchange.specs.Calls.{Sealed, delivered_record, sent_record, protected}
+use Rattle.spec_script.specs.Refusals.{Refusal, DeepBody, OfOutside, SignerFailed}
 use Rattle.spec_script.specs.Messages.{shallow_message}
+use Rattle.spec_script.specs.Choices.{Signing, Signs, SignerFails, Choices}
+use Rattle.spec_script.specs.Altering.{altered_by, altered}
+use Rattle.spec_documents.specs.Patch.{Op}
 use Rattle.serde_json.specs.Data.{Data}
 use Rattle.spec_documents.specs.Reading.{tree_from}
 use Rattle.spec_documents.specs.Place as place
 use Rattle.spec_script.specs.LineTree.{text_value, value_tree, or_other_number}
-use Rattle.spec_script.specs.Events.{Event, AddNode, AddContext, AddKeys, Send, Inject, Deliver, Restart, event_of, or_bad_event, line_event}
-use Rattle.spec_script.specs.Steps.{State, Step, Refuses, refuses, or_refuses, puts, sends_sealed, sealed_answer, delivers, delivery_answer, has_read, request_to_send, opens, keys_up, step, step_with, line_step}
+use Rattle.spec_script.specs.Events.{Event, AddNode, AddContext, AddKeys, Send, Inject, Deliver, Restart, Pass, Alter, Reported, event_of, or_bad_event, line_event}
+use Rattle.spec_script.specs.Steps.{State, Step, Refuses, refuses, or_refuses, puts, sends_sealed, sealed_answer, delivers, delivery_answer, has_read, outgoing_of, message_to_send, passes_on, opens, keys_up, step, step_with, line_step}
 
 -- ---- calls
 
@@ -36,19 +39,24 @@ call_told (BadRecord n) p r item k e = cc
 
 -- ---- steps
 
--- a record is told only where the keeper's records are read so
-record Tells (f : Choice) (r : Step) : Type 0 where
-  pub of : (k : ℕ) → r.answer ≡ Refuses (OfOutside (Journal k)) → f.reading ≡ BadRecord k
+-- a record is told only where the keeper's records are read so, and a fault of the signer only where it fails
+record Tells (f : Choices) (r : Step) : Type 0 where
+  pub of : (k : ℕ) → r.answer ≡ Refuses (OfOutside (Journal k)) → f.keeper.reading ≡ BadRecord k
+  pub signer : r.answer ≡ Refuses SignerFailed → f.signer ≡ SignerFails
 
 abbrev names_record : Refusal → Bool
 names_record (OfOutside (Journal number)) = true
+names_record SignerFailed = true
 names_record _ = false
 
-refusal_tells : (s : State) (f : Choice) (d : Refusal) → names_record d ≡ false → Tells f (refuses s d)
-refusal_tells s f d other = record { of = λ k e. let same : d ≡ OfOutside (Journal k) = cc in let told : names_record d ≡ true = ap names_record same in cc }
+refusal_tells : (s : State) (f : Choices) (d : Refusal) → names_record d ≡ false → Tells f (refuses s d)
+refusal_tells s f d other = record {
+  of = λ k e. let same : d ≡ OfOutside (Journal k) = cc in let told : names_record d ≡ true = ap names_record same in cc;
+  signer = λ e. let same : d ≡ SignerFailed = cc in let told : names_record d ≡ true = ap names_record same in cc;
+}
 
-done_tells : (f : Choice) (r : Step) → ((e : Refusal) → r.answer ≡ Refuses e → ⊥) → Tells f r
-done_tells f r other = record { of = λ k e. absurd (other _ e) }
+done_tells : (f : Choices) (r : Step) → ((e : Refusal) → r.answer ≡ Refuses e → ⊥) → Tells f r
+done_tells f r other = record { of = λ k e. absurd (other _ e); signer = λ e. absurd (other _ e) }
 
 record Mute {A : Type 0} (r : Result A Refusal) : Type 0 where
   pub is : (e : Refusal) → r ≡ Err e → names_record e ≡ false
@@ -76,53 +84,64 @@ mute_or_refused : {X D : Type 0} (d : D → Refusal) (r : Result X D) → ((x : 
 mute_or_refused d (Ok x) other = mute_ok x
 mute_or_refused d (Err e) other = mute_err (d e) (other e)
 
-step_bind : {A : Type 0} (s : State) (f : Choice) (r : Result A Refusal) (k : A → Result Step Refusal) → Mute r → ((x : A) → Tells f (or_refuses s (k x))) → Tells f (or_refuses s (r >>= k))
+step_bind : {A : Type 0} (s : State) (f : Choices) (r : Result A Refusal) (k : A → Result Step Refusal) → Mute r → ((x : A) → Tells f (or_refuses s (k x))) → Tells f (or_refuses s (r >>= k))
 unfolding ◌>>=◌
 step_bind s f (Ok x) k h g = g x
 step_bind s f (Err d) k h g = refusal_tells s f d (h.is d refl)
 
-read_tells : (s : State) (f : Choice) (reading : Reading) (k : Unit {0} → Result Step Refusal) → f.reading ≡ reading → Tells f (or_refuses s (k tt)) → Tells f (or_refuses s (has_read reading >>= k))
+read_tells : (s : State) (f : Choices) (reading : Reading) (k : Unit {0} → Result Step Refusal) → f.keeper.reading ≡ reading → Tells f (or_refuses s (k tt)) → Tells f (or_refuses s (has_read reading >>= k))
 unfolding ◌>>=◌
 read_tells s f Read k is h = h
-read_tells s f ReadFails k is h = record { of = λ k e. cc }
-read_tells s f (BadRecord n) k is h = record { of = λ k e. cc }
+read_tells s f ReadFails k is h = record { of = λ k e. cc; signer = λ e. cc }
+read_tells s f (BadRecord n) k is h = record { of = λ k e. cc; signer = λ e. cc }
 
-puts_tells : (s : State) (f : Choice) (p : Putting) (name : List ℕ) (r : Record) → Tells f (puts s p name r)
-puts_tells s f Kept name r = record { of = λ k e. cc }
-puts_tells s f Lost name r = record { of = λ k e. cc }
-puts_tells s f KeptUntold name r = record { of = λ k e. cc }
+puts_tells : (s : State) (f : Choices) (p : Putting) (name : List ℕ) (r : Record) → Tells f (puts s p name r)
+puts_tells s f Kept name r = record { of = λ k e. cc; signer = λ e. cc }
+puts_tells s f Lost name r = record { of = λ k e. cc; signer = λ e. cc }
+puts_tells s f KeptUntold name r = record { of = λ k e. cc; signer = λ e. cc }
 
 sealed_is : (n k : ℕ) (r : Result Sealed (Cause sending.Refusal)) → sealed_answer n r ≡ Refuses (OfOutside (Journal k)) → r ≡ Err (Outside (Journal k))
 sealed_is n k (Ok x) e = cc
 sealed_is n k (Err (Own d)) e = cc
 sealed_is n k (Err (Outside fault)) e = cc
 
-delivery_is : (k : ℕ) (r : Result Delivery (Cause receiving.Refusal)) → delivery_answer r ≡ Refuses (OfOutside (Journal k)) → r ≡ Err (Outside (Journal k))
-delivery_is k (Ok x) e = cc
-delivery_is k (Err (Own d)) e = cc
-delivery_is k (Err (Outside fault)) e = cc
+delivery_is : (t : Tree) (k : ℕ) (r : Result Delivery (Cause receiving.Refusal)) → delivery_answer t r ≡ Refuses (OfOutside (Journal k)) → r ≡ Err (Outside (Journal k))
+delivery_is t k (Ok x) e = cc
+delivery_is t k (Err (Own d)) e = cc
+delivery_is t k (Err (Outside fault)) e = cc
 
-sealed_tells : (s : State) (f : Choice) (r : Result Sealed sending.Refusal) → Tells f (sends_sealed s (behind_reading f.reading (or_refusal r (λ x. outside.puts f.putting (sent_record x) x))))
-sealed_tells s f r = record { of = λ k e. call_told f.reading f.putting r sent_record k (sealed_is _ k _ e) }
+-- no call of a SEPP asks the signer
+sealed_asks : (n : ℕ) (r : Result Sealed (Cause sending.Refusal)) → sealed_answer n r ≡ Refuses SignerFailed → ⊥
+sealed_asks n (Ok x) e = cc
+sealed_asks n (Err (Own d)) e = cc
+sealed_asks n (Err (Outside fault)) e = cc
 
-delivery_tells : (s : State) (f : Choice) (r : Result Delivery receiving.Refusal) → Tells f (delivers s (behind_reading f.reading (or_refusal r (λ x. outside.puts f.putting (delivered_record x) x))))
-delivery_tells s f r = record { of = λ k e. call_told f.reading f.putting r delivered_record k (delivery_is k _ e) }
+delivery_asks : (t : Tree) (r : Result Delivery (Cause receiving.Refusal)) → delivery_answer t r ≡ Refuses SignerFailed → ⊥
+delivery_asks t (Ok x) e = cc
+delivery_asks t (Err (Own d)) e = cc
+delivery_asks t (Err (Outside fault)) e = cc
 
-opens_tells : (s : State) (f : Choice) (x : Context) → Tells f (or_refuses s (opens s f x))
+sealed_tells : (s : State) (f : Choices) (r : Result Sealed sending.Refusal) → Tells f (sends_sealed s (behind_reading f.keeper.reading (or_refusal r (λ x. outside.puts f.keeper.putting (sent_record x) x))))
+sealed_tells s f r = record { of = λ k e. call_told f.keeper.reading f.keeper.putting r sent_record k (sealed_is _ k _ e); signer = λ e. absurd (sealed_asks _ _ e) }
+
+delivery_tells : (s : State) (f : Choices) (t : Tree) (r : Result Delivery receiving.Refusal) → Tells f (delivers s t (behind_reading f.keeper.reading (or_refusal r (λ x. outside.puts f.keeper.putting (delivered_record x) x))))
+delivery_tells s f t r = record { of = λ k e. call_told f.keeper.reading f.keeper.putting r delivered_record k (delivery_is t k _ e); signer = λ e. absurd (delivery_asks t _ e) }
+
+opens_tells : (s : State) (f : Choices) (x : Context) → Tells f (or_refuses s (opens s f.keeper x))
 opens_tells s f x =
-    read_tells s f f.reading _ refl
+    read_tells s f f.keeper.reading _ refl
     (step_bind s f _ _ (mute_unless _ _ refl) λ a.
     step_bind s f _ _ (mute_unless _ _ refl) λ b.
-    puts_tells s f f.putting _ _)
+    puts_tells s f f.keeper.putting _ _)
 
-keys_tells : (s : State) (f : Choice) (node : List ℕ) (id : ℕ) (set : KeySet) → Tells f (or_refuses s (keys_up s f node id set))
+keys_tells : (s : State) (f : Choices) (node : List ℕ) (id : ℕ) (set : KeySet) → Tells f (or_refuses s (keys_up s f.keeper node id set))
 keys_tells s f node id set =
-    read_tells s f f.reading _ refl
+    read_tells s f f.keeper.reading _ refl
     (step_bind s f _ _ (mute_wanted _ _ refl) λ x.
     step_bind s f _ _ (mute_unless _ _ refl) λ a.
     step_bind s f _ _ (mute_unless _ _ refl) λ b.
     step_bind s f _ _ (mute_unless _ _ refl) λ c.
-    puts_tells s f f.putting _ _)
+    puts_tells s f f.keeper.putting _ _)
 
 message_mute : (r : Result Message Member) → Mute (shallow_message r)
 message_mute (Ok m) = by_depth (nat_le (body_depth m.body) 64)
@@ -132,21 +151,40 @@ message_mute (Ok m) = by_depth (nat_le (body_depth m.body) 64)
     by_depth false = mute_err _ refl
 message_mute (Err k) = mute_err _ refl
 
-sent_mute : (t : Tree) (answers : Option ℕ) → Mute (request_to_send t answers)
+outgoing_mute : (k : Kind) (answers : Option ℕ) → Mute (outgoing_of k answers)
+outgoing_mute of_request None = mute_ok _
+outgoing_mute of_request (Some to) = mute_err _ refl
+outgoing_mute of_response None = mute_err _ refl
+outgoing_mute of_response (Some to) = mute_ok _
+
+sent_mute : (t : Tree) (answers : Option ℕ) → Mute (message_to_send t answers)
 sent_mute t answers =
     mute_bind _ _ (message_mute (message_of t)) λ m.
-    mute_bind _ _ (mute_unless _ _ refl) λ b.
-    mute_bind _ _ (mute_unless _ _ refl) λ c.
+    mute_bind _ _ (outgoing_mute (kind_of m) answers) λ o.
     mute_ok _
 
-event_tells : (s : State) (f : Choice) (e : Event) → Tells f (step s f e)
+altered_mute : (ops : List Op) (t : Tree) → Mute (altered ops t)
+altered_mute [] t = mute_ok t
+altered_mute (op ∷ ops) t =
+    mute_bind (altered_by op t) (λ u. altered ops u)
+    (mute_bind _ _ (mute_or_refused _ _ λ cause. refl) λ u. mute_bind _ _ (mute_unless _ _ refl) λ a. mute_bind _ _ (mute_unless _ _ refl) λ b. mute_ok u)
+    λ u. altered_mute ops u
+
+passed_tells : (s : State) (f : Choices) (signing : Signing) → f.signer ≡ signing → (ipx : List ℕ) (operations t : Tree) → Tells f (or_refuses s (passes_on s signing ipx operations t))
+passed_tells s f (Signs g) is ipx operations t = step_bind s f _ _ (mute_or_refused _ _ λ member. refl) λ d. done_tells f _ λ e is. cc
+passed_tells s f SignerFails is ipx operations t = step_bind s f _ _ (mute_or_refused _ _ λ member. refl) λ parts. record { of = λ k e. cc; signer = λ e. is }
+
+event_tells : (s : State) (f : Choices) (e : Event) → Tells f (step s f e)
 event_tells s f (AddNode node plmn) = step_bind s f _ _ (mute_unless _ _ refl) λ a. done_tells f _ λ e is. cc
 event_tells s f (AddContext x) = step_bind s f _ _ (mute_wanted _ _ refl) λ plmn. step_bind s f _ _ (mute_or_refused _ _ λ k. refl) λ policy. opens_tells s f _
 event_tells s f (AddKeys node id set) = step_bind s f _ _ (mute_wanted _ _ refl) λ plmn. keys_tells s f node id set
-event_tells s f (Send node id t answers) = step_bind s f _ _ (mute_wanted _ _ refl) λ plmn. step_bind s f _ _ (sent_mute t answers) λ m. sealed_tells s f (protected s.records node id Asks m)
-event_tells s f (Inject t) = done_tells f _ λ e is. cc
-event_tells s f (Deliver node number) = step_bind s f _ _ (mute_wanted _ _ refl) λ plmn. step_bind s f _ _ (mute_wanted _ _ refl) λ t. delivery_tells s f (first_failed s.records node t)
+event_tells s f (Send node id t answers) = step_bind s f _ _ (mute_wanted _ _ refl) λ plmn. step_bind s f _ _ (mute_unless _ _ refl) λ room. step_bind s f _ _ (sent_mute t answers) λ m. sealed_tells s f (protected s.records node id m.0 m.1)
+event_tells s f (Pass ipx number operations) = step_bind s f _ _ (mute_wanted _ _ refl) λ t. step_bind s f _ _ (mute_unless _ _ refl) λ room. passed_tells s f f.signer refl ipx operations t
+event_tells s f (Inject t) = step_bind s f _ _ (mute_unless _ _ refl) λ room. done_tells f _ λ e is. cc
+event_tells s f (Alter number ops) = step_bind s f _ _ (mute_wanted _ _ refl) λ t. step_bind s f _ _ (mute_unless _ _ refl) λ room. step_bind s f _ _ (altered_mute ops t) λ u. done_tells f _ λ e is. cc
+event_tells s f (Deliver node number) = step_bind s f _ _ (mute_wanted _ _ refl) λ plmn. step_bind s f _ _ (mute_wanted _ _ refl) λ t. delivery_tells s f t (first_failed s.records node t)
 event_tells s f (Restart node) = step_bind s f _ _ (mute_wanted _ _ refl) λ plmn. done_tells f _ λ e is. cc
+event_tells s f (Reported node t) = step_bind s f _ _ (mute_wanted _ _ refl) λ plmn. step_bind s f _ _ (mute_or_refused _ _ λ none. refl) λ r. done_tells f _ λ e is. cc
 
 -- ---- lines
 
@@ -162,10 +200,14 @@ value_mute : (o : Option Data) → Mute (place.◌>>=◌ (value_tree o) (λ t. o
 value_mute None = mute_err _ refl
 value_mute (Some v) = tree_mute (tree_from v)
 
-with_tells : (s : State) (f : Choice) (r : Result Event Refusal) → Mute r → Tells f (step_with s f r)
+with_tells : (s : State) (f : Choices) (r : Result Event Refusal) → Mute r → Tells f (step_with s f r)
 with_tells s f (Ok e) mute = event_tells s f e
 with_tells s f (Err e) mute = refusal_tells s f e (mute.is e refl)
 
 -- a line that is answered by a bad record: the keeper was read, and has it
-pub line_tells : (s : State) (f : Choice) (line : List ℕ) (k : ℕ) → (line_step s f line).answer ≡ Refuses (OfOutside (Journal k)) → f.reading ≡ BadRecord k
+pub line_tells : (s : State) (f : Choices) (line : List ℕ) (k : ℕ) → (line_step s f line).answer ≡ Refuses (OfOutside (Journal k)) → f.keeper.reading ≡ BadRecord k
 line_tells s f line k e = (with_tells s f (line_event line) (value_mute (text_value line))).of k e
+
+-- one that is answered by a fault of the signer: it failed
+pub line_signs : (s : State) (f : Choices) (line : List ℕ) → (line_step s f line).answer ≡ Refuses SignerFailed → f.signer ≡ SignerFails
+line_signs s f line e = (with_tells s f (line_event line) (value_mute (text_value line))).signer e

@@ -9,3 +9,9 @@ pub mod Unread
 pub mod Journals
 pub mod Held
 pub mod Printed
+pub mod Wires
+pub mod Handling
+pub mod Signing
+pub mod ReportNumbers
+pub mod Deliveries
+pub mod Altering

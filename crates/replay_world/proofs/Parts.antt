@@ -12,7 +12,7 @@ use Rattle.script_lines.specs.declared.refusal.Refusal.{Refusal}
 use Rattle.spec_documents.specs.Gives as gives
 use Rattle.script_lines.specs.Unanswered.{told_refusal}
 use Rattle.replay_world.specs.Worlds.{sites_view, state_of}
-use Rattle.replay_world.specs.Stepping.{IsChosen, StepBy, Makes, HasPut, GivesUp, Tells, Comes, StoreStays, Idles, ComesIdly}
+use Rattle.replay_world.specs.Stepping.{IsChosen, StepBy, Makes, HasPut, GivesUp, Tells, Comes}
 use Rattle.replay_world.specs.declared.world.World.{World}
 use Rattle.script_lines.specs.declared.unanswered.Unanswered.{Unanswered}
 use Rattle.script_lines.specs.declared.unanswered.Unanswered.TheVariants as unanswered
@@ -57,7 +57,7 @@ by_fresh steps later held old P fresh same h =
 
 -- the world, once its store is read
 abbrev pub with_store : World → Stored → World
-with_store w s = record { sites = w.sites; wire = w.wire; store = s }
+with_store w s = record { sites = w.sites; wire = w.wire; wire_bytes = w.wire_bytes; store = s }
 
 -- a store is read: the records that are held, or those that a fresh one has
 pub record WasRead (held : Option (List (List ℕ))) (old new : Stored) : Type 0 where
@@ -120,6 +120,26 @@ comes_read steps later held mid now old new read number result stays was same h 
     (comes_by steps later mid now old new read number result (λ P. by_reading steps later mid old read P was same) h)
 
 -- ---- parts that ask nothing of the keeper
+
+-- the records stay, and the store may have become stale
+pub record StoreStays (old new : Stored) : Type 0 where
+  pub fresh : new.fresh ≡ true → old.fresh ≡ true
+  pub records : new.records ≡ old.records
+
+-- a step that is the same over all records and choices, and puts none
+pub record Idles (steps : State → Choice → Step) (old new : World) (number : ℕ) (result : Result (List ℕ) Unanswered) : Type 0 where
+  pub step : Step
+  pub same : (records : List Record) (f : Choice) → steps (state_of old records) f ≡ step
+  pub puts_none : step.put ≡ None
+  pub told : Tells number result step.answer
+  pub sites : sites_view new.sites ≡ step.sites
+  pub wire : new.wire ≡ with_sent old.wire step.sent
+  pub store : StoreStays old.store new.store
+
+-- the same, or want of memory, which leaves the world as it was
+abbrev pub ComesIdly : (State → Choice → Step) → (old new : World) → ℕ → Result (List ℕ) Unanswered → Type 0
+ComesIdly steps old new number (Err unanswered.NoMemory) = new ≡ old
+ComesIdly steps old new number result = Idles steps old new number result
 
 idle_by : (steps : State → Choice → Step) (Told : Answer → Type 0) (held now : Option (List (List ℕ))) (old new : World) (r : Step)
     → ((records : List Record) (f : Choice) → steps (state_of old records) f ≡ r) → r.put ≡ None → Told r.answer → sites_view new.sites ≡ r.sites → new.wire ≡ with_sent old.wire r.sent

@@ -1,14 +1,13 @@
 -- Requests to send, and the documents that they are sealed to.
-use Rattle.std.proofs.Common.{◌≡◌, ℕ, List, [], ◌∷◌, ◌++◌, is_some, codes, Option, Some, None, Result, Ok, Err, refl, sym, ap, subst, ◌∙◌, arith}
-use Rattle.std.specs.List.{AllByRecursion}
+use Rattle.std.proofs.Common.{◌≡◌, ℕ, List, Option, Result, Ok, Err, refl, sym, ap, subst, arith}
 use Rattle.spec_documents.specs.Tree.{Tree, depth}
-use Rattle.spec_messages.specs.Message.{Message, Kind, of_request, of_response, kind_of}
+use Rattle.spec_messages.specs.Message.{Message}
 use Rattle.spec_documents.specs.Compact.{compact_text}
 use Rattle.spec_messages.specs.Policy.{values}
 use Rattle.spec_messages.specs.Block.{Block, block_tree}
 use Rattle.spec_records.specs.Records.{OneKey, Context, Record}
 use Rattle.context_store.specs.Stores.{Stored}
-use Rattle.spec_exchange.specs.Chain.{◌>>=◌, unless}
+use Rattle.spec_exchange.specs.Chain.{◌>>=◌}
 use Rattle.spec_exchange.specs.SendingRefusals as sending
 use Rattle.spec_sealing.specs.Suites.{content_key}
 use Rattle.spec_sealing.specs.Jwe.{Jwe, sealed}
@@ -16,42 +15,9 @@ use Rattle.spec_sealing.specs.Plaintext.{plaintext}
 use Rattle.spec_sealing.specs.Received.{carrier}
 use Rattle.spec_records.specs.Keys.{nonce, send_key}
 use Rattle.spec_exchange.specs.Outside.{Reading, Read, ReadFails, BadRecord, Putting, Kept, Lost, KeptUntold, puts, behind_reading, or_refusal}
-use Rattle.spec_exchange.specs.Calls.{Sealed, Outgoing, Asks, protected, sent_record, sealed_document, sent_block_of, message_id, kind_of_outgoing}
-use Rattle.spec_script.specs.Refusals.{Refusal, BadEvent, NotBuilt}
-use Rattle.spec_script.specs.Messages.{message_in}
-use Rattle.spec_script.specs.Steps.{is_response, request_to_send}
+use Rattle.spec_exchange.specs.Calls.{Sealed, Outgoing, protected, sent_record, sealed_document, sent_block_of, message_id, kind_of_outgoing}
 use Rattle.sending_sepp.specs.Outcome as sent
-use Rattle.script_lines.specs.View.{refusal_view}
-use Rattle.script_lines.specs.declared.unanswered.Unanswered.{Unanswered}
-use Rattle.script_lines.specs.declared.unanswered.Unanswered.TheVariants as unanswered
-use Rattle.spec_documents.specs.Gives.{Tells}
-use Rattle.script_lines.specs.Unanswered.{told_refusal}
 use Rattle.replay_world.specs.Worlds.{IsShallow}
-
--- ---- requests
-
--- what follows the reading of the message
-abbrev sent_if : Option ℕ → Message → Result Message Refusal
-sent_if o m = unless (is_response (kind_of m)) NotBuilt >>= λ x. unless (is_some o) (BadEvent (codes "answers")) >>= λ y. Ok m
-
-request_is : (t : Tree) (o : Option ℕ) (r : Result Message Refusal) → message_in t ≡ r → request_to_send t o ≡ (r >>= λ m. sent_if o m)
-unfolding ◌>>=◌
-request_is t o r h = ap (λ (x : Result Message Refusal). x >>= λ m. sent_if o m) h
-
-of_kind : (m : Message) (o : Option ℕ) (k : Kind) → kind_of m ≡ k → sent_if o m ≡ (unless (is_response k) NotBuilt >>= λ x. unless (is_some o) (BadEvent (codes "answers")) >>= λ y. Ok m)
-of_kind m o k h = ap (λ (x : Kind). unless (is_response x) NotBuilt >>= λ u. unless (is_some o) (BadEvent (codes "answers")) >>= λ y. Ok m) h
-
-pub request_sent : (t : Tree) (m : Message) → message_in t ≡ Ok m → kind_of m ≡ of_request → request_to_send t None ≡ Ok m
-unfolding ◌>>=◌
-request_sent t m h k = request_is t None (Ok m) h ∙ of_kind m None of_request k
-
-pub request_answers : (t : Tree) (m : Message) (to : ℕ) → message_in t ≡ Ok m → kind_of m ≡ of_request → request_to_send t (Some to) ≡ Err (BadEvent (codes "answers"))
-unfolding ◌>>=◌
-request_answers t m to h k = request_is t (Some to) (Ok m) h ∙ of_kind m (Some to) of_request k
-
-pub response_refused : (t : Tree) (m : Message) (o : Option ℕ) → message_in t ≡ Ok m → kind_of m ≡ of_response → request_to_send t o ≡ Err NotBuilt
-unfolding ◌>>=◌
-response_refused t m o h k = request_is t o (Ok m) h ∙ of_kind m o of_response k
 
 -- ---- what is sealed is shallow
 
@@ -88,21 +54,8 @@ sent_result Read p (Err d) s e = cc
 sent_result ReadFails p r s e = cc
 sent_result (BadRecord k) p r s e = cc
 
-pub document_low : (held now : Option (List (List ℕ))) (old new : Stored) (node : List ℕ) (id : ℕ) (m : Message) (t : Tree) → sent.Protects held now old new node id m (Ok t) → IsShallow t
-document_low held now old new node id m t h =
+pub document_low : (o : Outgoing) (held now : Option (List (List ℕ))) (old new : Stored) (node : List ℕ) (id : ℕ) (m : Message) (t : Tree) → sent.ProtectsAs o held now old new node id m (Ok t) → IsShallow t
+document_low o held now old new node id m t h =
     let a = h.comes.answer in
     subst (λ (z : Tree). IsShallow z) (sym a.2)
-    ((protected_low h.records node id Asks m).low a.0 (sent_result h.choice.reading h.choice.putting (protected h.records node id Asks m) a.0 a.1))
-
--- ---- the wire
-
-pub all_more : (P : Tree → Type 0) (ts : List Tree) (t : Tree) → AllByRecursion P ts → P t → AllByRecursion P (ts ++ t ∷ [])
-all_more P [] t all one = (one, tt)
-all_more P (u ∷ us) t all one = (all.0, all_more P us t all.1 one)
-
--- ---- refusals of requests
-
-pub still_refused : (t : Tree) (o : Option ℕ) (u : Unanswered) → Tells (told_refusal u) (message_in t) → Tells (told_refusal u) (request_to_send t o)
-unfolding ◌>>=◌
-still_refused t o (unanswered.Refused refusal) h = request_is t o (Err (refusal_view refusal)) h
-still_refused t o unanswered.NoMemory h = tt
+    ((protected_low h.records node id o m).low a.0 (sent_result h.choice.reading h.choice.putting (protected h.records node id o m) a.0 a.1))

@@ -2,10 +2,10 @@
 use Rattle.std.specs.Prelude.{⊤, ◌&&◌, IsTrue}
 use Rattle.spec_documents.specs.Text.{is_node_name}
 use Rattle.spec_records.specs.RecordDocument.{are_ipx}
-use Rattle.spec_script.specs.Events.{Event, AddNode, AddContext, AddKeys, Send, Inject, Deliver, Restart}
+use Rattle.spec_script.specs.Events.{Event, AddNode, AddContext, AddKeys, Send, Inject, Deliver, Restart, Pass, Alter, Reported}
 use Rattle.replay_world.specs.Worlds.{IsShallow}
 
--- the names that a record takes over are in their grammar, and a document that goes on the wire is shallow
+-- the names that a record takes over are in their grammar, and documents that are kept whole are shallow
 abbrev pub IsFit : Event → Type 0
 IsFit (AddNode node plmn) = ⊤
 IsFit (AddContext x) = IsTrue (is_node_name x.node && (is_node_name x.peer_node && (are_ipx x.own_ipx && are_ipx x.peer_ipx)))
@@ -14,3 +14,6 @@ IsFit (Send node id message answers) = ⊤
 IsFit (Inject document) = IsShallow document
 IsFit (Deliver node wire) = ⊤
 IsFit (Restart node) = ⊤
+IsFit (Pass ipx wire operations) = IsShallow operations
+IsFit (Alter wire operations) = ⊤
+IsFit (Reported node document) = IsShallow document

@@ -1,5 +1,9 @@
+pub mod Outsiders
 pub mod Worlds
+pub mod Wires
 pub mod Refusing
 pub mod Stepping
+pub mod Handling
+pub mod Sending
 pub mod Handing
 pub mod Fitting

@@ -1,5 +1,5 @@
 -- What a step leaves of a world and its keeper, for the steps of lines and for their parts.
-use Rattle.std.specs.Prelude.{◌≡◌, ◌⊎◌, ℕ, ◌≤◌, List, length, Bool, true, false, Option, None, IfSome, Result, Ok, Err}
+use Rattle.std.specs.Prelude.{◌≡◌, ◌⊎◌, ℕ, ◌≤◌, List, length, Bool, true, false, Option, IfSome, Result, Ok, Err}
 use Rattle.spec_documents.specs.Tree.{Tree}
 use Rattle.spec_records.specs.Records.{Record, record_limit}
 use Rattle.n32_outside.specs.Contents.{Stays}
@@ -12,6 +12,8 @@ use Rattle.spec_script.specs.Answers.{answer_text}
 use Rattle.spec_script.specs.Output.{has_refusal, is_keeper_refusal}
 use Rattle.n32_outside.specs.Causes.{Rose}
 use Rattle.script_lines.specs.View.{refusal_view}
+use Rattle.spec_script.specs.Choices.{Signing}
+use Rattle.replay_world.specs.Outsiders.{by}
 use Rattle.replay_world.specs.Worlds.{sites_view, state_of}
 use Rattle.replay_world.specs.declared.world.World.{World}
 use Rattle.script_lines.specs.declared.unanswered.Unanswered.{Unanswered}
@@ -75,29 +77,7 @@ pub record TellsText (before after_ : ℕ) (number : ℕ) (text : List ℕ) (a :
   pub text_is : text ≡ answer_text number a
   pub failed : has_refusal is_keeper_refusal a ≡ true → Rose before after_
 
--- the step of a line
-abbrev pub LineComes : (held now : Option (List (List ℕ))) → (before after_ : ℕ) → (old new : World) → (number : ℕ) → (line : List ℕ) → Result (List ℕ) NoMemory → Type 0
-LineComes held now before after_ old new number line (Ok text) = StepBy (λ s f. line_step s f line) held old (Makes (TellsText before after_ number text) held now old.wire new)
-LineComes held now before after_ old new number line (Err e) = GivesUp (λ s f. line_step s f line) held now old new
-
--- ---- parts that do without the keeper
-
--- the records stay, and the store may have become stale
-pub record StoreStays (old new : Stored) : Type 0 where
-  pub fresh : new.fresh ≡ true → old.fresh ≡ true
-  pub records : new.records ≡ old.records
-
--- a step that is the same over all records and choices, and puts none
-pub record Idles (steps : State → Choice → Step) (old new : World) (number : ℕ) (result : Result (List ℕ) Unanswered) : Type 0 where
-  pub step : Step
-  pub same : (records : List Record) (f : Choice) → steps (state_of old records) f ≡ step
-  pub puts_none : step.put ≡ None
-  pub told : Tells number result step.answer
-  pub sites : sites_view new.sites ≡ step.sites
-  pub wire : new.wire ≡ with_sent old.wire step.sent
-  pub store : StoreStays old.store new.store
-
--- the same, or want of memory, which leaves the world as it was
-abbrev pub ComesIdly : (State → Choice → Step) → (old new : World) → ℕ → Result (List ℕ) Unanswered → Type 0
-ComesIdly steps old new number (Err unanswered.NoMemory) = new ≡ old
-ComesIdly steps old new number result = Idles steps old new number result
+-- the step of a line, under this signing
+abbrev pub LineComes : Signing → (held now : Option (List (List ℕ))) → (before after_ : ℕ) → (old new : World) → (number : ℕ) → (line : List ℕ) → Result (List ℕ) NoMemory → Type 0
+LineComes x held now before after_ old new number line (Ok text) = StepBy (λ s f. line_step s (by x f) line) held old (Makes (TellsText before after_ number text) held now old.wire new)
+LineComes x held now before after_ old new number line (Err e) = GivesUp (λ s f. line_step s (by x f) line) held now old new

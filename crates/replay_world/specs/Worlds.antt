@@ -4,13 +4,15 @@ use Rattle.std.specs.List.{AllByRecursion}
 use Rattle.spec_documents.specs.Tree.{Tree, depth}
 use Rattle.n32_outside.specs.Causes.{Rose}
 use Rattle.spec_records.specs.Records.{Record}
-use Rattle.spec_exchange.specs.Outside.{Choice, Journal, with_put}
+use Rattle.spec_exchange.specs.Outside.{Journal, with_put}
+use Rattle.spec_script.specs.Choices.{Choices}
 use Rattle.spec_script.specs.Refusals.{OfOutside}
 use Rattle.spec_script.specs.Steps as spec
 use Rattle.spec_script.specs.Steps.{State, Refuses, after, line_step, plmn_at}
 use Rattle.spec_script.specs.Answers.{answer_text}
-use Rattle.spec_script.specs.Output.{has_refusal, is_keeper_refusal}
+use Rattle.spec_script.specs.Output.{has_refusal, is_keeper_refusal, is_signer_refusal}
 use Rattle.context_store.specs.Stores.{AreRecords, IsConsistent, IsFirstBad}
+use Rattle.replay_world.specs.Outsiders.{Told, IsMeant}
 use Rattle.replay_world.specs.declared.world.Site.{Site}
 use Rattle.replay_world.specs.declared.world.World.{World}
 
@@ -35,11 +37,17 @@ AreDistinct (site ∷ sites) = (plmn_at sites site.node ≡ None) × AreDistinct
 abbrev pub IsShallow : Tree → Type 0
 IsShallow t = depth t ≤ 126
 
+-- the world's own part of the condition of a step
+pub record IsSound (w : World) : Type 0 where
+  pub nodes : AreDistinct (sites_view w.sites)
+  pub wire : AllByRecursion IsShallow w.wire
+  -- the number of bytes that the documents on the wire have
+  pub bytes : w.wire_bytes ≡ spec.wire_bytes w.wire
+
 -- the condition of a step
 pub record IsReady (held : Option (List (List ℕ))) (w : World) : Type 0 where
   pub consistent : IsConsistent held w.store
-  pub nodes : AreDistinct (sites_view w.sites)
-  pub wire : AllByRecursion IsShallow w.wire
+  pub sound : IsSound w
 
 -- ---- a step over the records that are held
 
@@ -49,19 +57,23 @@ pub record TellsRecords (held : Option (List (List ℕ))) (records : List Record
   pub told : held ≡ Some texts
   pub are : AreRecords texts records
 
--- the line of this number is answered over these records: by the step of the line under some choice of the keeper
-pub record StepsOver (now : Option (List (List ℕ))) (before after_ : ℕ) (old new : World) (texts : List (List ℕ)) (records : List Record) (number : ℕ) (line text : List ℕ) : Type 0 where
-  pub choice : Choice
+-- the line of this number is answered over these records: by the step of the line under some choices of keeper and signer
+pub record StepsOver (before after_ : Told) (old new : World) (texts : List (List ℕ)) (records : List Record) (number : ℕ) (line text : List ℕ) : Type 0 where
+  pub choice : Choices
+  -- what is signed is as the signer tells
+  pub meant : IsMeant before.signer.algorithm before.signer.meaning before.signer.faults after_.signer.faults choice.signer
   pub text_is : text ≡ answer_text number (line_step (state_of old records) choice line).answer
   -- the world, over what is held then, is the state after the step
   pub state_is : state_of new (with_put records (line_step (state_of old records) choice line).put) ≡ after (state_of old records) (line_step (state_of old records) choice line)
-  pub held_is : TellsRecords now (with_put records (line_step (state_of old records) choice line).put)
+  pub held_is : TellsRecords after_.held (with_put records (line_step (state_of old records) choice line).put)
   -- a fault of the keeper is told only where its count rose
-  pub failed : has_refusal is_keeper_refusal (line_step (state_of old records) choice line).answer ≡ true → Rose before after_
+  pub failed : has_refusal is_keeper_refusal (line_step (state_of old records) choice line).answer ≡ true → Rose before.keeper_faults after_.keeper_faults
+  -- and one of the signer only where that one's rose
+  pub unsigned : has_refusal is_signer_refusal (line_step (state_of old records) choice line).answer ≡ true → Rose before.signer.faults after_.signer.faults
   -- a bad record is told only where it is the first
   pub journal : (k : ℕ) → (line_step (state_of old records) choice line).answer ≡ Refuses (OfOutside (Journal k)) → IsFirstBad texts k
 
 -- where the keeper tells texts that are all records
-abbrev pub Steps : (held now : Option (List (List ℕ))) → (before after_ : ℕ) → (old new : World) → (number : ℕ) → (line text : List ℕ) → Type 0
-Steps held now before after_ old new number line text =
-    IfSome held (λ texts. (records : List Record) → AreRecords texts records → StepsOver now before after_ old new texts records number line text)
+abbrev pub Steps : (before after_ : Told) → (old new : World) → (number : ℕ) → (line text : List ℕ) → Type 0
+Steps before after_ old new number line text =
+    IfSome before.held (λ texts. (records : List Record) → AreRecords texts records → StepsOver before after_ old new texts records number line text)

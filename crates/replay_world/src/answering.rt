@@ -1,37 +1,40 @@
 // The answer to a line.
-ghost use Rattle.std.specs.Prelude.{◌≡◌, ◌≤◌, IfOk, IsErrOf};
-ghost use Rattle.n32_outside.specs.Causes.{Rose};
+ghost use Rattle.std.specs.Prelude.{◌≡◌, ◌≤◌, IfOk};
 ghost use Rattle.spec_script.specs.Answers.{answer_text};
 ghost use Rattle.spec_script.specs.Steps as spec;
 ghost use Rattle.script_lines.specs.View.{event_view, refusal_view};
+ghost use Rattle.replay_world.specs.Outsiders.{Signed, SignerStays, by, of_signer, told};
 ghost use Rattle.replay_world.specs.Worlds.{IsReady, Steps};
-ghost use Rattle.replay_world.specs.Stepping.{Comes, LineComes};
+ghost use Rattle.replay_world.specs.Stepping.{LineComes};
+ghost use Rattle.replay_world.specs.Handling.{Handles};
 ghost use Rattle.replay_world.specs.Fitting.{IsFit};
 
 use crate::handing_in::{hand_in_context, hand_in_keys};
+use crate::passing::{alter, pass};
 use crate::reading::read_line_event;
+use crate::reporting::reported;
 use crate::sites::{add_node, restart};
 use crate::traffic::{deliver, inject, send};
 use crate::world::World;
-use n32_outside::Keeper;
+use n32_outside::{Keeper, Signer};
 use n32_values::{Bytes, NoMemory};
 use script_lines::{Event, Refusal, Unanswered, refusal_text};
 use spec_script::runs::refusal_changes_nothing;
 use std::alloc::Global;
 
-fn answer_event<K: Keeper>(
+fn answer_event<K: Keeper, G: Signer>(
     alloc: Global,
     world: &mut World,
     keeper: &mut K,
+    signer: &mut G,
     number: u64,
     event: Event,
 ) -> Result<Bytes, Unanswered>
     requires ready { IsReady (K.held keeper.old) world.old }
     requires fit { IsFit (event_view event) }
-    ensures comes { Comes (λ s f. spec.step s f (event_view event)) (K.held keeper.old) (K.held keeper.new) world.old world.new number result }
-    ensures ready { IsReady (K.held keeper.new) world.new }
-    ensures later { K.faults keeper.old ≤ K.faults keeper.new }
-    ensures failed { IsErrOf result (Unanswered.Refused Refusal.Keeper) → Rose (K.faults keeper.old) (K.faults keeper.new) }
+    ensures handles { Signed (of_signer (G.algorithm signer.old) (G.meaning signer.old) (G.faults signer.old)) (of_signer (G.algorithm signer.new) (G.meaning signer.new) (G.faults signer.new))
+        (λ x. Handles (λ s f. spec.step s (by x f) (event_view event)) (K.held keeper.old) (K.held keeper.new) (K.faults keeper.old) (K.faults keeper.new) world.old world.new number result) }
+    ensures signer { SignerStays (of_signer (G.algorithm signer.old) (G.meaning signer.old) (G.faults signer.old)) (of_signer (G.algorithm signer.new) (G.meaning signer.new) (G.faults signer.new)) }
 {
     match event {
         Event::Node { node, plmn } => add_node(alloc, world, number, node, plmn),
@@ -45,30 +48,37 @@ fn answer_event<K: Keeper>(
             message,
             answers,
         } => send(alloc, world, keeper, number, &node, id, &message, answers),
+        Event::Pass {
+            ipx,
+            wire,
+            operations,
+        } => pass(alloc, world, signer, number, ipx, &wire, operations),
         Event::Inject { document } => inject(alloc, world, number, document),
+        Event::Alter { wire, operations } => alter(alloc, world, number, &wire, &operations),
         Event::Deliver { node, wire } => deliver(alloc, world, keeper, number, &node, &wire),
         Event::Restart { node } => restart(alloc, world, number, &node),
+        Event::Reported { node, document } => reported(alloc, world, number, &node, document),
     }
 }
 
-fn answer_line<K: Keeper>(
+fn answer_line<K: Keeper, G: Signer>(
     alloc: Global,
     world: &mut World,
     keeper: &mut K,
+    signer: &mut G,
     number: u64,
     line: &[u8],
 ) -> Result<Bytes, Unanswered>
     requires { IsReady (K.held keeper.old) world.old }
-    ensures comes { Comes (λ s f. spec.line_step s f line.now) (K.held keeper.old) (K.held keeper.new) world.old world.new number result }
-    ensures ready { IsReady (K.held keeper.new) world.new }
-    ensures later { K.faults keeper.old ≤ K.faults keeper.new }
-    ensures failed { IsErrOf result (Unanswered.Refused Refusal.Keeper) → Rose (K.faults keeper.old) (K.faults keeper.new) }
+    ensures handles { Signed (of_signer (G.algorithm signer.old) (G.meaning signer.old) (G.faults signer.old)) (of_signer (G.algorithm signer.new) (G.meaning signer.new) (G.faults signer.new))
+        (λ x. Handles (λ s f. spec.line_step s (by x f) line.now) (K.held keeper.old) (K.held keeper.new) (K.faults keeper.old) (K.faults keeper.new) world.old world.new number result) }
+    ensures signer { SignerStays (of_signer (G.algorithm signer.old) (G.meaning signer.old) (G.faults signer.old)) (of_signer (G.algorithm signer.new) (G.meaning signer.new) (G.faults signer.new)) }
 {
     let event = match read_line_event(alloc, line) {
         Ok(event) => event,
         Err(why) => return Err(why),
     };
-    answer_event(alloc, world, keeper, number, event)
+    answer_event(alloc, world, keeper, signer, number, event)
 }
 
 fn refused_text(alloc: Global, number: u64, refusal: Refusal) -> Result<Bytes, NoMemory>
@@ -78,20 +88,23 @@ fn refused_text(alloc: Global, number: u64, refusal: Refusal) -> Result<Bytes, N
 }
 
 // The text of the answer to a line.
-fn text_of_answer<K: Keeper>(
+fn text_of_answer<K: Keeper, G: Signer>(
     alloc: Global,
     world: &mut World,
     keeper: &mut K,
+    signer: &mut G,
     number: u64,
     line: &[u8],
 ) -> Result<Bytes, NoMemory>
     requires { IsReady (K.held keeper.old) world.old }
-    ensures comes { LineComes (K.held keeper.old) (K.held keeper.new) (K.faults keeper.old) (K.faults keeper.new) world.old world.new number line.now result }
+    ensures comes { Signed (of_signer (G.algorithm signer.old) (G.meaning signer.old) (G.faults signer.old)) (of_signer (G.algorithm signer.new) (G.meaning signer.new) (G.faults signer.new))
+        (λ x. LineComes x (K.held keeper.old) (K.held keeper.new) (K.faults keeper.old) (K.faults keeper.new) world.old world.new number line.now result) }
     ensures ready { IsReady (K.held keeper.new) world.new }
     ensures later { K.faults keeper.old ≤ K.faults keeper.new }
+    ensures signer { SignerStays (of_signer (G.algorithm signer.old) (G.meaning signer.old) (G.faults signer.old)) (of_signer (G.algorithm signer.new) (G.meaning signer.new) (G.faults signer.new)) }
 {
     refusal_changes_nothing();
-    match answer_line(alloc, world, keeper, number, line) {
+    match answer_line(alloc, world, keeper, signer, number, line) {
         Ok(text) => Ok(text),
         Err(Unanswered::Refused(refusal)) => refused_text(alloc, number, refusal),
         Err(Unanswered::NoMemory) => Err(NoMemory),
@@ -103,30 +116,35 @@ fn text_of_answer<K: Keeper>(
 ///
 /// The answer is that of the first check that fails, in the order of the event, or that the event is done. `KEEPER`
 /// comes only where the keeper failed in this call, and the store was stale or every other check holds; its record
-/// may then be held or not. `JOURNAL` comes only where a stale store is read. After any other refusal the world and
-/// what is held are as before.
+/// may then be held or not. `JOURNAL` comes only where a stale store is read. `SIGNER` comes only where the signer
+/// failed in this call. After any other refusal than `KEEPER` the world and what is held are as before.
 ///
 /// # Errors
 /// `NoMemory` leaves the nodes and the wire as they were, and the records as they were or with the event's one record.
-pub fn step<K: Keeper>(
+pub fn step<K: Keeper, G: Signer>(
     alloc: Global,
     world: &mut World,
     number: u64,
     line: &[u8],
     keeper: &mut K,
+    signer: &mut G,
 ) -> Result<Bytes, NoMemory>
     // The store has the records that are held, where it is fresh; no node stands twice; no document on the wire is
-    // deeper than 126.
+    // deeper than 126; the wire's bytes are counted.
     requires { IsReady (K.held keeper.old) world.old }
     ensures ready { IsReady (K.held keeper.new) world.new }
 
     // The answer and what it leaves are those of the step of the line, over the records that a fresh store has or
-    // that are held, and under some choice of the keeper.
-    ensures comes { LineComes (K.held keeper.old) (K.held keeper.new) (K.faults keeper.old) (K.faults keeper.new) world.old world.new number line.now result }
+    // that are held, under some choice of the keeper, and with what the signer signs.
+    ensures comes { Signed (of_signer (G.algorithm signer.old) (G.meaning signer.old) (G.faults signer.old)) (of_signer (G.algorithm signer.new) (G.meaning signer.new) (G.faults signer.new))
+        (λ x. LineComes x (K.held keeper.old) (K.held keeper.new) (K.faults keeper.old) (K.faults keeper.new) world.old world.new number line.now result) }
 
     // Where the keeper tells texts that are all records, these are the records.
-    ensures steps { IfOk result (λ text. Steps (K.held keeper.old) (K.held keeper.new) (K.faults keeper.old) (K.faults keeper.new) world.old world.new number line.now text) }
+    ensures steps { IfOk result (λ text. Steps
+        (told (K.held keeper.old) (K.faults keeper.old) (of_signer (G.algorithm signer.old) (G.meaning signer.old) (G.faults signer.old)))
+        (told (K.held keeper.new) (K.faults keeper.new) (of_signer (G.algorithm signer.new) (G.meaning signer.new) (G.faults signer.new))) world.old world.new number line.now text) }
     ensures later { K.faults keeper.old ≤ K.faults keeper.new }
+    ensures signer { SignerStays (of_signer (G.algorithm signer.old) (G.meaning signer.old) (G.faults signer.old)) (of_signer (G.algorithm signer.new) (G.meaning signer.new) (G.faults signer.new)) }
 {
-    text_of_answer(alloc, world, keeper, number, line)
+    text_of_answer(alloc, world, keeper, signer, number, line)
 }

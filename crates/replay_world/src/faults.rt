@@ -1,12 +1,16 @@
 // Faults of the store and of the calls of a SEPP, as they are told of an event.
 ghost use Rattle.std.specs.Prelude.{◌≡◌};
-ghost use Rattle.replay_world.specs.Refusing.{of_adding, of_opening, of_receiving, of_sending};
+ghost use Rattle.replay_world.specs.Refusing.{Undelivers, of_adding, of_opening, of_passing, of_sending};
 
+use crate::reporting::report_on;
 use block_forms::LimitName;
 use context_store::{AddFault, OpenFault};
+use ipx_node::PassFault;
+use n32_values::Doc;
 use receiving_sepp::AcceptFault;
 use script_lines::{Refusal, Unanswered};
 use sending_sepp::ProtectFault;
+use std::alloc::Global;
 
 pub(crate) fn unread(fault: OpenFault) -> Unanswered
     ensures { result ≡ of_opening fault }
@@ -39,11 +43,25 @@ pub(crate) fn unsent(fault: ProtectFault) -> Unanswered
     }
 }
 
-pub(crate) fn undelivered(fault: AcceptFault) -> Unanswered
-    ensures { result ≡ of_receiving fault }
+pub(crate) fn unpassed(fault: PassFault) -> Unanswered
+    ensures { result ≡ of_passing fault }
 {
     match fault {
-        AcceptFault::Refused(refusal) => Unanswered::Refused(Refusal::Receiving(refusal)),
+        PassFault::Form(part) => Unanswered::Refused(Refusal::Form(part)),
+        PassFault::Signer => Unanswered::Refused(Refusal::Signer),
+        PassFault::NoMemory => Unanswered::NoMemory,
+    }
+}
+
+// A document is refused with its report.
+pub(crate) fn undelivered(alloc: Global, document: &Doc, fault: AcceptFault) -> Unanswered
+    ensures { Undelivers document.now fault result }
+{
+    match fault {
+        AcceptFault::Refused(refused) => match report_on(alloc, document, &refused) {
+            Ok(report) => Unanswered::Refused(Refusal::Receiving { refused, report }),
+            Err(_) => Unanswered::NoMemory,
+        },
         AcceptFault::Journal(number) => Unanswered::Refused(Refusal::Journal(number)),
         AcceptFault::Keeper => Unanswered::Refused(Refusal::Keeper),
         AcceptFault::NoMemory => Unanswered::NoMemory,

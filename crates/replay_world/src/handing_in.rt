@@ -11,7 +11,8 @@ ghost use Rattle.spec_script.specs.Steps as spec;
 ghost use Rattle.spec_documents.specs.Gives.{Gives};
 ghost use Rattle.script_lines.specs.Unanswered.{SparesKeeper, told_refusal};
 ghost use Rattle.replay_world.specs.Worlds.{IsReady};
-ghost use Rattle.replay_world.specs.Stepping.{Comes};
+ghost use Rattle.replay_world.specs.Outsiders.{unsigned};
+ghost use Rattle.replay_world.specs.Handling.{Handles};
 ghost use Rattle.replay_world.specs.Handing.{context_to_open, keys_may_come, keys_new, opens_new, puts_record};
 ghost use Rattle.replay_world.specs.Fitting.{IsFit};
 
@@ -75,10 +76,8 @@ fn put_record<K: Keeper>(
     requires ready { IsReady (K.held keeper.old) world.old }
     requires fresh { world.old.store.fresh ≡ true }
     requires names { IsTrue (is_well_named (record_view item)) }
-    ensures comes { Comes (puts_record name.now (record_view item)) (K.held keeper.old) (K.held keeper.new) world.old world.new number result }
-    ensures ready { IsReady (K.held keeper.new) world.new }
-    ensures later { K.faults keeper.old ≤ K.faults keeper.new }
-    ensures failed { IsErrOf result (Unanswered.Refused Refusal.Keeper) → Rose (K.faults keeper.old) (K.faults keeper.new) }
+    ensures { Handles (puts_record name.now (record_view item))
+        (K.held keeper.old) (K.held keeper.new) (K.faults keeper.old) (K.faults keeper.new) world.old world.new number result }
 {
     let text = done_text(alloc, number, name)?;
     match world.store.add(alloc, keeper, item) {
@@ -98,10 +97,8 @@ fn open_context<K: Keeper>(
     requires ready { IsReady (K.held keeper.old) world.old }
     requires fresh { world.old.store.fresh ≡ true }
     requires names { IsTrue (is_well_named (records.Opened (context_view context))) }
-    ensures comes { Comes (opens_new (context_view context)) (K.held keeper.old) (K.held keeper.new) world.old world.new number result }
-    ensures ready { IsReady (K.held keeper.new) world.new }
-    ensures later { K.faults keeper.old ≤ K.faults keeper.new }
-    ensures failed { IsErrOf result (Unanswered.Refused Refusal.Keeper) → Rose (K.faults keeper.old) (K.faults keeper.new) }
+    ensures { Handles (opens_new (context_view context))
+        (K.held keeper.old) (K.held keeper.new) (K.faults keeper.old) (K.faults keeper.new) world.old world.new number result }
 {
     if world.store.used(&context.node, context.id) {
         return Err(Unanswered::Refused(Refusal::ContextUsed));
@@ -126,10 +123,8 @@ pub(crate) fn hand_in_context<K: Keeper>(
 ) -> Result<Bytes, Unanswered>
     requires ready { IsReady (K.held keeper.old) world.old }
     requires fit { IsFit (AddContext (handed_view handed)) }
-    ensures comes { Comes (λ s f. spec.step s f (AddContext (handed_view handed))) (K.held keeper.old) (K.held keeper.new) world.old world.new number result }
-    ensures ready { IsReady (K.held keeper.new) world.new }
-    ensures later { K.faults keeper.old ≤ K.faults keeper.new }
-    ensures failed { IsErrOf result (Unanswered.Refused Refusal.Keeper) → Rose (K.faults keeper.old) (K.faults keeper.new) }
+    ensures { Handles (λ s f. spec.step s (unsigned f) (AddContext (handed_view handed)))
+        (K.held keeper.old) (K.held keeper.new) (K.faults keeper.old) (K.faults keeper.new) world.old world.new number result }
 {
     if !is_known(&world.sites, &handed.node) {
         return Err(Unanswered::Refused(Refusal::NodeUnknown));
@@ -175,10 +170,8 @@ fn record_keys<K: Keeper>(
     requires ready { IsReady (K.held keeper.old) world.old }
     requires fresh { world.old.store.fresh ≡ true }
     requires name { IsTrue (is_node_name node) }
-    ensures comes { Comes (keys_new node id.value (key_set_view keys)) (K.held keeper.old) (K.held keeper.new) world.old world.new number result }
-    ensures ready { IsReady (K.held keeper.new) world.new }
-    ensures later { K.faults keeper.old ≤ K.faults keeper.new }
-    ensures failed { IsErrOf result (Unanswered.Refused Refusal.Keeper) → Rose (K.faults keeper.old) (K.faults keeper.new) }
+    ensures { Handles (keys_new node id.value (key_set_view keys))
+        (K.held keeper.old) (K.held keeper.new) (K.faults keeper.old) (K.faults keeper.new) world.old world.new number result }
 {
     match check_keys(&world.store, &node, id, &keys) {
         Ok(()) => {
@@ -201,10 +194,8 @@ pub(crate) fn hand_in_keys<K: Keeper>(
 ) -> Result<Bytes, Unanswered>
     requires ready { IsReady (K.held keeper.old) world.old }
     requires name { IsTrue (is_node_name node) }
-    ensures comes { Comes (λ s f. spec.step s f (AddKeys node id.value (key_set_view keys))) (K.held keeper.old) (K.held keeper.new) world.old world.new number result }
-    ensures ready { IsReady (K.held keeper.new) world.new }
-    ensures later { K.faults keeper.old ≤ K.faults keeper.new }
-    ensures failed { IsErrOf result (Unanswered.Refused Refusal.Keeper) → Rose (K.faults keeper.old) (K.faults keeper.new) }
+    ensures { Handles (λ s f. spec.step s (unsigned f) (AddKeys node id.value (key_set_view keys)))
+        (K.held keeper.old) (K.held keeper.new) (K.faults keeper.old) (K.faults keeper.new) world.old world.new number result }
 {
     if !is_known(&world.sites, &node) {
         return Err(Unanswered::Refused(Refusal::NodeUnknown));

@@ -4,9 +4,12 @@
 mod answering;
 mod faults;
 mod handing_in;
+mod passing;
 mod reading;
+mod reporting;
 mod sites;
 mod traffic;
+mod wire;
 mod world;
 
 pub use answering::step;

@@ -1,10 +1,10 @@
 // The nodes: added, looked up and begun anew.
-ghost use Rattle.std.specs.Prelude.{◌≡◌, is_some, List, Option, ℕ};
+ghost use Rattle.std.specs.Prelude.{◌≡◌, is_some};
 ghost use Rattle.spec_script.specs.Events.{AddNode, Restart};
 ghost use Rattle.spec_script.specs.Steps as spec;
-ghost use Rattle.replay_world.specs.Worlds.{IsReady, sites_view};
-ghost use Rattle.script_lines.specs.Unanswered.{SparesKeeper};
-ghost use Rattle.replay_world.specs.Stepping.{ComesIdly};
+ghost use Rattle.replay_world.specs.Outsiders.{unsigned};
+ghost use Rattle.replay_world.specs.Worlds.{IsSound, sites_view};
+ghost use Rattle.replay_world.specs.Handling.{HandlesAlone};
 
 use crate::world::{Site, SiteList, World};
 use n32_values::{Bytes, PlmnId, Text};
@@ -31,9 +31,8 @@ pub(crate) fn add_node(
     node: Text,
     plmn: PlmnId,
 ) -> Result<Bytes, Unanswered>
-    ensures comes { ComesIdly (λ s f. spec.step s f (AddNode node plmn)) world.old world.new number result }
-    ensures ready { (held : Option (List (List ℕ))) → IsReady held world.old → IsReady held world.new }
-    ensures spares { SparesKeeper result }
+    requires { IsSound world.old }
+    ensures { HandlesAlone (λ s f. spec.step s (unsigned f) (AddNode node plmn)) world.old world.new number result }
 {
     if is_known(&world.sites, &node) {
         return Err(Unanswered::Refused(Refusal::NodeExists));
@@ -50,9 +49,8 @@ pub(crate) fn restart(
     number: u64,
     node: &Text,
 ) -> Result<Bytes, Unanswered>
-    ensures comes { ComesIdly (λ s f. spec.step s f (Restart node.now)) world.old world.new number result }
-    ensures ready { (held : Option (List (List ℕ))) → IsReady held world.old → IsReady held world.new }
-    ensures spares { SparesKeeper result }
+    requires { IsSound world.old }
+    ensures { HandlesAlone (λ s f. spec.step s (unsigned f) (Restart node.now)) world.old world.new number result }
 {
     if !is_known(&world.sites, node) {
         return Err(Unanswered::Refused(Refusal::NodeUnknown));

@@ -1,119 +1,131 @@
 // Documents: sent, put on the wire and delivered.
-ghost use Rattle.std.specs.Prelude.{◌≡◌, ◌≤◌, ◌+◌, ◌++◌, [], ◌∷◌, length, IfOk, OnOk, OnErr, IsErrOf, IsTrue, option_map, List, Option, ℕ};
-ghost use Rattle.spec_messages.specs.Message.{is_whole, body_depth, kind_of, of_request};
-ghost use Rattle.n32_values.specs.View.{tree_of};
+ghost use Rattle.std.specs.Prelude.{◌≡◌, ◌≤◌, IfOk, IsErrOf, IsTrue, option_map};
 ghost use Rattle.n32_outside.specs.Causes.{Rose};
-ghost use Rattle.http_message.specs.Reading.{message_view};
+ghost use Rattle.context_store.specs.Stores.{IsConsistent};
+ghost use Rattle.sending_sepp.specs.Outcome.{ProtectsAs};
+ghost use Rattle.spec_messages.specs.Message.{is_whole, body_depth, kind_of};
+ghost use Rattle.n32_values.specs.View.{tree_of};
+ghost use Rattle.http_message.specs.Reading.{kind_view, message_view};
 ghost use Rattle.spec_script.specs.Events.{Deliver, Inject, Send};
-ghost use Rattle.spec_exchange.specs.Calls.{Asks, sends};
-ghost use Rattle.script_lines.specs.AnswerTexts.{sealed_answer};
+ghost use Rattle.spec_exchange.specs.Calls.{kind_of_outgoing, sends};
 ghost use Rattle.spec_script.specs.Steps as spec;
 ghost use Rattle.spec_documents.specs.Gives.{Gives};
 ghost use Rattle.script_lines.specs.Unanswered.{SparesKeeper, told_refusal};
-ghost use Rattle.replay_world.specs.Worlds.{IsReady, IsShallow};
-ghost use Rattle.replay_world.specs.Stepping.{Comes, ComesIdly};
+ghost use Rattle.replay_world.specs.Outsiders.{unsigned as without_signer};
+ghost use Rattle.replay_world.specs.Worlds.{IsReady, IsShallow, IsSound};
+ghost use Rattle.replay_world.specs.Handling.{Handles, HandlesAlone};
+ghost use Rattle.replay_world.specs.Sending.{outgoing_view};
 
 use crate::faults::{undelivered, unsent};
 use crate::sites::is_known;
+use crate::wire::{document_at, is_full, put_given, put_made};
 use crate::world::World;
+use block_forms::LimitName;
+use context_store::Store;
 use http_message::{Kind, Message};
 use n32_outside::Keeper;
-use n32_values::{Bytes, Doc, DocList, Hex64, NoMemory, Node, Text, Whole};
+use n32_values::{Bytes, Doc, Hex64, Node, Text, Whole};
 use receiving_sepp::accept;
-use script_lines::{
-    Refusal, Unanswered, delivered_text, read_line_message, sealed_text, wire_text,
-};
-use sending_sepp::protect;
+use script_lines::{Refusal, Unanswered, delivered_text, read_line_message};
+use sending_sepp::{ProtectFault, protect, protect_reply};
 use std::alloc::Global;
 
-// The document of a number on the wire, which counts from 1.
-fn document_at<'a>(wire: &'a DocList, number: &Whole) -> Option<&'a Doc>
-    ensures { option_map (λ d. d.now) result ≡ spec.wire_at wire.now number.now }
-{
-    let value = number.value();
-    if value < 1 {
-        return None;
-    }
-    wire.get((value - 1) as usize)
+// What a message is sent as: a request, or the response to the request of an id.
+#[derive(Clone, Copy, Drop)]
+pub(crate) enum Outgoing {
+    Asks,
+    Replies(Hex64),
 }
 
-// The request to send. No response is sent yet, and no request answers one.
-fn request_to_send(
+// A response answers a request, and a request none.
+fn outgoing_of(kind: Kind, answers: Option<Hex64>) -> Result<Outgoing, Unanswered>
+    ensures gives { Gives told_refusal outgoing_view result (spec.outgoing_of (kind_view kind) (option_map (λ i. i.value) answers)) }
+    ensures kind { IfOk result (λ o. kind_of_outgoing (outgoing_view o) ≡ kind_view kind) }
+    ensures spares { SparesKeeper result }
+{
+    match (kind, answers) {
+        (Kind::Request, None) => Ok(Outgoing::Asks),
+        (Kind::Response, Some(to)) => Ok(Outgoing::Replies(to)),
+        _ => Err(Unanswered::Refused(Refusal::Event("answers"))),
+    }
+}
+
+// The message to send, and as what.
+#[tactic(auto, unfolding(spec_documents::specs::Chain::chains))]
+fn message_to_send(
     alloc: Global,
     document: &Node,
     answers: Option<Hex64>,
-) -> Result<Message, Unanswered>
-    ensures gives { Gives told_refusal message_view result (spec.request_to_send (tree_of document.now) (option_map (λ id. id.value) answers)) }
-    ensures whole { IfOk result (λ m. IsTrue (is_whole (message_view m))) }
-    ensures shallow { IfOk result (λ m. body_depth (message_view m).body ≤ 64) }
-    ensures kind { IfOk result (λ m. kind_of (message_view m) ≡ of_request) }
+) -> Result<(Outgoing, Message), Unanswered>
+    ensures gives { Gives told_refusal (λ r. (outgoing_view r.0, message_view r.1)) result (spec.message_to_send (tree_of document.now) (option_map (λ i. i.value) answers)) }
+    ensures whole { IfOk result (λ r. IsTrue (is_whole (message_view r.1))) }
+    ensures shallow { IfOk result (λ r. body_depth (message_view r.1).body ≤ 64) }
+    ensures kind { IfOk result (λ r. kind_of (message_view r.1) ≡ kind_of_outgoing (outgoing_view r.0)) }
     ensures spares { SparesKeeper result }
 {
-    match read_line_message(alloc, document) {
-        Ok(message) => match message.kind() {
-            Kind::Response => Err(Unanswered::Refused(Refusal::NotBuilt)),
-            Kind::Request => match answers {
-                None => Ok(message),
-                Some(_) => Err(Unanswered::Refused(Refusal::Event("answers"))),
-            },
-        },
+    let message = match read_line_message(alloc, document) {
+        Ok(message) => message,
+        Err(why) => return Err(why),
+    };
+    match outgoing_of(message.kind(), answers) {
+        Ok(outgoing) => Ok((outgoing, message)),
         Err(why) => Err(why),
     }
 }
 
-// The number of the next document. No memory holds so many that it has none.
-fn next_place(wire: &DocList) -> Result<u64, NoMemory>
-    ensures { IfOk result (λ place. place ≡ length wire.now + 1) }
+// Seals and records a message.
+fn protect_as<K: Keeper>(
+    alloc: Global,
+    store: &mut Store,
+    keeper: &mut K,
+    node: &Text,
+    id: Hex64,
+    outgoing: Outgoing,
+    message: &Message,
+) -> Result<Doc, ProtectFault>
+    requires consistent { IsConsistent (K.held keeper.old) store.old }
+    requires whole { IsTrue (is_whole (message_view message.now)) }
+    requires shallow { body_depth (message_view message.now).body ≤ 64 }
+    requires kind { kind_of (message_view message.now) ≡ kind_of_outgoing (outgoing_view outgoing) }
+    ensures protects { ProtectsAs (outgoing_view outgoing) (K.held keeper.old) (K.held keeper.new) store.old store.new node.now id.value (message_view message.now) result }
+    ensures consistent { IsConsistent (K.held keeper.new) store.new }
+    ensures later { K.faults keeper.old ≤ K.faults keeper.new }
+    ensures failed { IsErrOf result ProtectFault.Keeper → Rose (K.faults keeper.old) (K.faults keeper.new) }
 {
-    match (wire.len() as u64).checked_add(1) {
-        Some(place) => Ok(place),
-        None => Err(NoMemory),
+    match outgoing {
+        Outgoing::Asks => protect(alloc, store, keeper, node, id, message),
+        Outgoing::Replies(to) => protect_reply(alloc, store, keeper, node, id, to, message),
     }
 }
 
-// Answers a sealed document, and puts it on the wire.
-fn put_sealed(
-    alloc: Global,
-    wire: &mut DocList,
-    number: u64,
-    document: Doc,
-) -> Result<Bytes, NoMemory>
-    ensures text { IfOk result (λ text. text ≡ sealed_answer number document (length wire.old + 1)) }
-    ensures put { OnOk result (wire.new ≡ wire.old ++ document ∷ []) }
-    ensures err { OnErr result (wire.new ≡ wire.old) }
-{
-    let place = next_place(wire)?;
-    let (text, document) = sealed_text(alloc, number, document, place)?;
-    wire.push(document)?;
-    Ok(text)
-}
-
-// Seals and records a request, and puts its document on the wire.
-fn send_request<K: Keeper>(
+// Seals and records a message, and puts its document on the wire.
+fn send_message<K: Keeper>(
     alloc: Global,
     world: &mut World,
     keeper: &mut K,
     number: u64,
     node: &Text,
     id: Hex64,
-    request: &Message,
+    outgoing: Outgoing,
+    message: &Message,
 ) -> Result<Bytes, Unanswered>
     requires ready { IsReady (K.held keeper.old) world.old }
-    requires whole { IsTrue (is_whole (message_view request.now)) }
-    requires shallow { body_depth (message_view request.now).body ≤ 64 }
-    requires kind { kind_of (message_view request.now) ≡ of_request }
-    ensures comes { Comes (λ s f. spec.sends_sealed s (sends f s.records node.now id.value Asks (message_view request.now))) (K.held keeper.old) (K.held keeper.new) world.old world.new number result }
-    ensures ready { IsReady (K.held keeper.new) world.new }
-    ensures later { K.faults keeper.old ≤ K.faults keeper.new }
-    ensures failed { IsErrOf result (Unanswered.Refused Refusal.Keeper) → Rose (K.faults keeper.old) (K.faults keeper.new) }
+    requires whole { IsTrue (is_whole (message_view message.now)) }
+    requires shallow { body_depth (message_view message.now).body ≤ 64 }
+    requires kind { kind_of (message_view message.now) ≡ kind_of_outgoing (outgoing_view outgoing) }
+    ensures { Handles (λ s f. spec.sends_sealed s (sends f s.records node.now id.value (outgoing_view outgoing) (message_view message.now)))
+        (K.held keeper.old) (K.held keeper.new) (K.faults keeper.old) (K.faults keeper.new) world.old world.new number result }
 {
-    match protect(alloc, &mut world.store, keeper, node, id, request) {
-        Ok(document) => Ok(put_sealed(alloc, &mut world.wire, number, document)?),
+    match protect_as(alloc, &mut world.store, keeper, node, id, outgoing, message) {
+        Ok(document) => match put_made(alloc, world, number, document) {
+            Ok(text) => Ok(text),
+            Err(_) => Err(Unanswered::NoMemory),
+        },
         Err(fault) => Err(unsent(fault)),
     }
 }
 
-/// A request is sent: sealed, recorded and put on the wire.
+/// A message is sent: sealed, recorded and put on the wire.
 pub(crate) fn send<K: Keeper>(
     alloc: Global,
     world: &mut World,
@@ -125,16 +137,19 @@ pub(crate) fn send<K: Keeper>(
     answers: Option<Hex64>,
 ) -> Result<Bytes, Unanswered>
     requires { IsReady (K.held keeper.old) world.old }
-    ensures comes { Comes (λ s f. spec.step s f (Send node.now id.value (tree_of message.now) (option_map (λ i. i.value) answers))) (K.held keeper.old) (K.held keeper.new) world.old world.new number result }
-    ensures ready { IsReady (K.held keeper.new) world.new }
-    ensures later { K.faults keeper.old ≤ K.faults keeper.new }
-    ensures failed { IsErrOf result (Unanswered.Refused Refusal.Keeper) → Rose (K.faults keeper.old) (K.faults keeper.new) }
+    ensures { Handles (λ s f. spec.step s (without_signer f) (Send node.now id.value (tree_of message.now) (option_map (λ i. i.value) answers)))
+        (K.held keeper.old) (K.held keeper.new) (K.faults keeper.old) (K.faults keeper.new) world.old world.new number result }
 {
     if !is_known(&world.sites, node) {
         return Err(Unanswered::Refused(Refusal::NodeUnknown));
     }
-    match request_to_send(alloc, message, answers) {
-        Ok(request) => send_request(alloc, world, keeper, number, node, id, &request),
+    if is_full(world) {
+        return Err(Unanswered::Refused(Refusal::Limit(LimitName::Wire)));
+    }
+    match message_to_send(alloc, message, answers) {
+        Ok((outgoing, message)) => {
+            send_message(alloc, world, keeper, number, node, id, outgoing, &message)
+        }
         Err(why) => Err(why),
     }
 }
@@ -146,18 +161,20 @@ pub(crate) fn inject(
     number: u64,
     document: Node,
 ) -> Result<Bytes, Unanswered>
-    requires { IsShallow (tree_of document) }
-    ensures comes { ComesIdly (λ s f. spec.step s f (Inject (tree_of document))) world.old world.new number result }
-    ensures ready { (held : Option (List (List ℕ))) → IsReady held world.old → IsReady held world.new }
-    ensures spares { SparesKeeper result }
+    requires sound { IsSound world.old }
+    requires shallow { IsShallow (tree_of document) }
+    ensures { HandlesAlone (λ s f. spec.step s (without_signer f) (Inject (tree_of document))) world.old world.new number result }
 {
-    let place = next_place(&world.wire)?;
-    let text = wire_text(alloc, number, place)?;
-    world.wire.push(Doc::from_shallow(document))?;
-    Ok(text)
+    if is_full(world) {
+        return Err(Unanswered::Refused(Refusal::Limit(LimitName::Wire)));
+    }
+    match put_given(alloc, world, number, Doc::from_shallow(document)) {
+        Ok(text) => Ok(text),
+        Err(_) => Err(Unanswered::NoMemory),
+    }
 }
 
-/// A document on the wire reaches a node, which accepts it or not.
+/// A document on the wire reaches a node, which accepts it or not. A refusal is told with its report.
 pub(crate) fn deliver<K: Keeper>(
     alloc: Global,
     world: &mut World,
@@ -167,10 +184,8 @@ pub(crate) fn deliver<K: Keeper>(
     wire: &Whole,
 ) -> Result<Bytes, Unanswered>
     requires { IsReady (K.held keeper.old) world.old }
-    ensures comes { Comes (λ s f. spec.step s f (Deliver node.now wire.now)) (K.held keeper.old) (K.held keeper.new) world.old world.new number result }
-    ensures ready { IsReady (K.held keeper.new) world.new }
-    ensures later { K.faults keeper.old ≤ K.faults keeper.new }
-    ensures failed { IsErrOf result (Unanswered.Refused Refusal.Keeper) → Rose (K.faults keeper.old) (K.faults keeper.new) }
+    ensures { Handles (λ s f. spec.step s (without_signer f) (Deliver node.now wire.now))
+        (K.held keeper.old) (K.held keeper.new) (K.faults keeper.old) (K.faults keeper.new) world.old world.new number result }
 {
     if !is_known(&world.sites, node) {
         return Err(Unanswered::Refused(Refusal::NodeUnknown));
@@ -180,7 +195,12 @@ pub(crate) fn deliver<K: Keeper>(
         None => return Err(Unanswered::Refused(Refusal::WireUnknown)),
     };
     match accept(alloc, &mut world.store, keeper, node, document) {
-        Ok(delivered) => Ok(delivered_text(alloc, number, delivered.message, delivered.id)?),
-        Err(fault) => Err(undelivered(fault)),
+        Ok(delivered) => {
+            match delivered_text(alloc, number, delivered.message, delivered.id) {
+                Ok(text) => Ok(text),
+                Err(_) => Err(Unanswered::NoMemory),
+            }
+        }
+        Err(fault) => Err(undelivered(alloc, document, fault)),
     }
 }

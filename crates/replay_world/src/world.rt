@@ -30,6 +30,8 @@ pub struct World {
     pub sites: SiteList,
     /// The documents on the wire. The one of number n, from 1, is item n - 1.
     pub wire: DocList,
+    /// How many bytes the documents on the wire have as compact texts.
+    pub wire_bytes: u64,
     /// The records, as they were last read or added.
     pub store: Store,
 }
@@ -38,6 +40,7 @@ pub struct World {
 pub fn new_world(alloc: Global) -> World
     ensures sites { result.sites ≡ [] }
     ensures wire { result.wire ≡ [] }
+    ensures bytes { result.wire_bytes ≡ 0 }
     ensures records { result.store.records ≡ [] }
     ensures stale { result.store.fresh ≡ false }
     ensures ready { (held : Option (List (List ℕ))) → IsReady held result }
@@ -45,6 +48,7 @@ pub fn new_world(alloc: Global) -> World
     World {
         sites: SiteList::new(alloc),
         wire: DocList::new(alloc),
+        wire_bytes: 0,
         store: new_store(alloc),
     }
 }
@@ -62,6 +66,7 @@ pub fn load_world<K: Keeper>(
     ensures ready { IsReady (K.held keeper.new) world.new }
     ensures sites { world.new.sites ≡ world.old.sites }
     ensures wire { world.new.wire ≡ world.old.wire }
+    ensures bytes { world.new.wire_bytes ≡ world.old.wire_bytes }
     ensures fresh { OnOk result (world.new.store.fresh ≡ true) }
     ensures held { OnOk result (Holds (K.held keeper.new) world.new.store.records) }
     ensures few { OnOk result (length world.new.store.records ≤ record_limit) }

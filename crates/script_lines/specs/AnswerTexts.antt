@@ -5,11 +5,11 @@ use Rattle.spec_documents.specs.Compact.{compact_text}
 use Rattle.spec_documents.specs.Ids.{id_text}
 use Rattle.spec_messages.specs.Message.{Message}
 use Rattle.spec_messages.specs.Printing.{message_tree}
-use Rattle.spec_script.specs.Answers.{number_tree}
+use Rattle.spec_script.specs.Answers.{number_tree, document_tree}
 
--- the document is sealed and has this number on the wire
-abbrev pub sealed_answer : ℕ → Tree → ℕ → List ℕ
-sealed_answer n document wire = compact_text (members (object ((codes "document", document) ∷ (codes "line", number_tree n) ∷ (codes "wire", number_tree wire) ∷ [])))
+-- the document has this number on the wire
+abbrev pub document_answer : ℕ → Tree → ℕ → List ℕ
+document_answer n document wire = compact_text (document_tree n document wire)
 
 -- the message of this id is delivered
 abbrev pub delivered_answer : ℕ → Message → ℕ → List ℕ

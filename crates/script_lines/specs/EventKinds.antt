@@ -4,7 +4,7 @@ use Rattle.spec_documents.specs.Tree.{Members}
 use Rattle.spec_messages.specs.Message.{text_at, any_text}
 use Rattle.spec_script.specs.Events as spec
 use Rattle.script_lines.specs.declared.event_kind.EventKind.{EventKind}
-use Rattle.script_lines.specs.declared.event_kind.EventKind.TheVariants.{Node, Context, Keys, Send, Inject, Deliver, Restart}
+use Rattle.script_lines.specs.declared.event_kind.EventKind.TheVariants.{Node, Context, Keys, Send, Inject, Deliver, Restart, Pass, Alter, Reported}
 
 abbrev pub kind_named : List ℕ → Option EventKind
 kind_named name =
@@ -14,7 +14,10 @@ kind_named name =
     else (if bytes_eq name (codes "send") then Some Send
     else (if bytes_eq name (codes "inject") then Some Inject
     else (if bytes_eq name (codes "deliver") then Some Deliver
-    else (if bytes_eq name (codes "restart") then Some Restart else None))))))
+    else (if bytes_eq name (codes "restart") then Some Restart
+    else (if bytes_eq name (codes "pass") then Some Pass
+    else (if bytes_eq name (codes "alter") then Some Alter
+    else (if bytes_eq name (codes "reported") then Some Reported else None)))))))))
 
 abbrev pub kind_in : Members → Option EventKind
 kind_in ms = option_and_then kind_named (text_at any_text (codes "do") ms)
@@ -29,3 +32,6 @@ event_by (Some Send) ms = spec.send_event ms
 event_by (Some Inject) ms = spec.inject_event ms
 event_by (Some Deliver) ms = spec.deliver_event ms
 event_by (Some Restart) ms = spec.restart_event ms
+event_by (Some Pass) ms = spec.pass_event ms
+event_by (Some Alter) ms = spec.alter_event ms
+event_by (Some Reported) ms = spec.reported_event ms

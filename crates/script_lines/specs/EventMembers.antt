@@ -1,7 +1,7 @@
 -- The names of an event's members (this project's own).
 use Rattle.std.specs.Prelude.{ℕ, List, codes}
 use Rattle.script_lines.specs.declared.event_member.EventMember.{EventMember}
-use Rattle.script_lines.specs.declared.event_member.EventMember.TheVariants.{Do, Node, Plmn, Id, PeerNode, Peer, Suite, Policy, OwnIpx, PeerIpx, Send, Receive, First, Message, Answers, Document, Wire}
+use Rattle.script_lines.specs.declared.event_member.EventMember.TheVariants.{Do, Node, Plmn, Id, PeerNode, Peer, Suite, Policy, OwnIpx, PeerIpx, Send, Receive, First, Message, Answers, Document, Wire, Ipx, Operations}
 
 abbrev pub member_name : EventMember → List ℕ
 member_name Do = codes "do"
@@ -21,3 +21,5 @@ member_name Message = codes "message"
 member_name Answers = codes "answers"
 member_name Document = codes "document"
 member_name Wire = codes "wire"
+member_name Ipx = codes "ipx"
+member_name Operations = codes "operations"

@@ -1,8 +1,10 @@
 -- The events and refusals of the definitions that values of the program are.
-use Rattle.std.specs.Prelude.{option_map}
+use Rattle.std.specs.Prelude.{map, option_map}
 use Rattle.n32_values.specs.View.{tree_of}
 use Rattle.http_message.specs.Reading.{member_view}
+use Rattle.json_patch6902.specs.View.{op_view}
 use Rattle.block_forms.specs.Faults.{limit_view}
+use Rattle.prins_document.specs.View.{part_name}
 use Rattle.context_records.specs.View.{suite_view, key_set_view}
 use Rattle.sending_sepp.specs.Sending as sending
 use Rattle.receiving_sepp.specs.Views.{refused_view}
@@ -11,7 +13,7 @@ use Rattle.spec_script.specs.Events as events
 use Rattle.spec_script.specs.Refusals as spec
 use Rattle.script_lines.specs.declared.event.HandedContext.{HandedContext}
 use Rattle.script_lines.specs.declared.event.Event.{Event}
-use Rattle.script_lines.specs.declared.event.Event.TheVariants.{Node, Context, Keys, Send, Inject, Deliver, Restart}
+use Rattle.script_lines.specs.declared.event.Event.TheVariants.{Node, Context, Keys, Send, Inject, Deliver, Restart, Pass, Alter, Reported}
 use Rattle.script_lines.specs.declared.refusal.Refusal.{Refusal}
 use Rattle.script_lines.specs.declared.refusal.Refusal.TheVariants as refusals
 
@@ -38,6 +40,9 @@ event_view (Send node id message answers) = events.Send node id.value (tree_of m
 event_view (Inject document) = events.Inject (tree_of document)
 event_view (Deliver node wire) = events.Deliver node wire
 event_view (Restart node) = events.Restart node
+event_view (Pass ipx wire operations) = events.Pass ipx wire (tree_of operations)
+event_view (Alter wire operations) = events.Alter wire (map op_view operations)
+event_view (Reported node document) = events.Reported node (tree_of document)
 
 -- ---- refusals
 
@@ -55,8 +60,10 @@ refusal_view (refusals.Message member) = spec.BadMessage (member_view member)
 refusal_view refusals.Depth = spec.DeepBody
 refusal_view (refusals.PolicyForm mapping) = spec.BadPolicy mapping
 refusal_view refusals.ContextUsed = spec.ContextUsed
-refusal_view refusals.NotBuilt = spec.NotBuilt
+refusal_view (refusals.Form part) = spec.BadForm (part_name part)
+refusal_view refusals.Report = spec.BadReport
 refusal_view (refusals.Sending fault) = spec.OfSending (sending.refusal_view fault)
-refusal_view (refusals.Receiving refused) = spec.OfReceiving (refused_view refused)
+refusal_view (refusals.Receiving refused report) = spec.OfReceiving (refused_view refused) report
 refusal_view (refusals.Journal number) = spec.OfOutside (outside.Journal number)
 refusal_view refusals.Keeper = spec.OfOutside outside.Keeper
+refusal_view refusals.Signer = spec.SignerFailed

@@ -1,5 +1,6 @@
 // Events.
 use context_records::KeySet;
+use json_patch6902::OpList;
 use jwe_flat::Suite;
 use n32_values::{Hex64, Node, PlmnId, Text, TextList, Whole};
 
@@ -58,10 +59,26 @@ pub enum Event {
         /// The id of the request that it answers.
         answers: Option<Hex64>,
     },
+    /// An intermediary passes a document on with an entry of its own.
+    Pass {
+        /// The identity of the intermediary.
+        ipx: Text,
+        /// The number of the document on the wire.
+        wire: Whole,
+        /// The operations of the entry, which nest at most 126 deep.
+        operations: Node,
+    },
     /// A document is put on the wire.
     Inject {
         /// The document.
         document: Node,
+    },
+    /// A document goes on the wire again, with operations applied.
+    Alter {
+        /// The number of the document on the wire.
+        wire: Whole,
+        /// The operations.
+        operations: OpList,
     },
     /// A document on the wire reaches a node.
     Deliver {
@@ -74,5 +91,12 @@ pub enum Event {
     Restart {
         /// The name of the node.
         node: Text,
+    },
+    /// A report of its peer reaches a node.
+    Reported {
+        /// The name of the node.
+        node: Text,
+        /// The document of the report.
+        document: Node,
     },
 }

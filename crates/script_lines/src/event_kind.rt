@@ -15,6 +15,9 @@ pub(crate) enum EventKind {
     Inject,
     Deliver,
     Restart,
+    Pass,
+    Alter,
+    Reported,
 }
 
 fn kind_named(name: &str) -> Option<EventKind>
@@ -34,6 +37,12 @@ fn kind_named(name: &str) -> Option<EventKind>
         Some(EventKind::Deliver)
     } else if name == "restart" {
         Some(EventKind::Restart)
+    } else if name == "pass" {
+        Some(EventKind::Pass)
+    } else if name == "alter" {
+        Some(EventKind::Alter)
+    } else if name == "reported" {
+        Some(EventKind::Reported)
     } else {
         None
     }

@@ -38,6 +38,10 @@ pub enum EventMember {
     Document,
     /// `wire`
     Wire,
+    /// `ipx`
+    Ipx,
+    /// `operations`
+    Operations,
 }
 
 impl EventMember {
@@ -63,6 +67,8 @@ impl EventMember {
             EventMember::Answers => "answers",
             EventMember::Document => "document",
             EventMember::Wire => "wire",
+            EventMember::Ipx => "ipx",
+            EventMember::Operations => "operations",
         }
     }
 }

@@ -10,8 +10,8 @@ use crate::event_fault::EventRead;
 use crate::event_kind::{EventKind, kind_of};
 use crate::event_member::EventMember;
 use crate::event_values::{
-    answers_at, first_at, id_at, ipx_at, key_pair_at, name_at, network_at, suite_at, take,
-    value_at, whole_at,
+    answers_at, first_at, id_at, identity_at, ipx_at, key_pair_at, name_at, network_at, ops_at,
+    suite_at, take, take_operations, value_at, whole_at,
 };
 use context_records::KeySet;
 use n32_values::{Doc, Node, NodeMap};
@@ -87,6 +87,37 @@ fn read_send(alloc: Global, map: NodeMap) -> Result<Event, EventRead>
     })
 }
 
+fn read_pass(alloc: Global, map: NodeMap) -> Result<Event, EventRead>
+    ensures { Gives event_view result (spec.pass_event map) }
+{
+    let mut map = map;
+    let ipx = identity_at(alloc, &map, EventMember::Ipx)?;
+    let wire = whole_at(&map, EventMember::Wire)?;
+    let operations = take_operations(alloc, &mut map, EventMember::Operations)?;
+    Ok(Event::Pass {
+        ipx,
+        wire,
+        operations,
+    })
+}
+
+fn read_alter(alloc: Global, map: &NodeMap) -> Result<Event, EventRead>
+    ensures { Gives event_view result (spec.alter_event map.now) }
+{
+    let wire = whole_at(map, EventMember::Wire)?;
+    let operations = ops_at(alloc, map, EventMember::Operations)?;
+    Ok(Event::Alter { wire, operations })
+}
+
+fn read_reported(alloc: Global, map: NodeMap) -> Result<Event, EventRead>
+    ensures { Gives event_view result (spec.reported_event map) }
+{
+    let mut map = map;
+    let node = name_at(alloc, &map, EventMember::Node)?;
+    let document = take(&mut map, EventMember::Document)?;
+    Ok(Event::Reported { node, document })
+}
+
 fn read_inject(map: NodeMap) -> Result<Event, EventRead>
     ensures { Gives event_view result (spec.inject_event map) }
 {
@@ -122,13 +153,16 @@ fn read_object(alloc: Global, map: NodeMap) -> Result<Event, EventRead>
         Some(EventKind::Inject) => read_inject(map),
         Some(EventKind::Deliver) => read_deliver(alloc, &map),
         Some(EventKind::Restart) => read_restart(alloc, &map),
+        Some(EventKind::Pass) => read_pass(alloc, map),
+        Some(EventKind::Alter) => read_alter(alloc, &map),
+        Some(EventKind::Reported) => read_reported(alloc, map),
         None => Err(EventRead::Member(EventMember::Do)),
     }
 }
 
 /// Reads the event that a line's document is of. `Member` names the first member, in the order of the event's
-/// table, that is missing or has not its form, `do` first. Other members are ignored. A message, a policy and an
-/// injected document are moved out of the line's, and their forms aren't judged here.
+/// table, that is missing or has not its form, `do` first. Other members are ignored. A message, a policy, an
+/// injected document, a report and the operations of `pass` are moved out of the line's, and their forms aren't judged here.
 pub fn read_event(alloc: Global, document: Doc) -> Result<Event, EventRead>
     ensures { Gives event_view result (spec.event_of document) }
 {

@@ -1,6 +1,7 @@
 // The members of events.
-ghost use Rattle.std.specs.Prelude.{◌≡◌, option_map};
+ghost use Rattle.std.specs.Prelude.{◌≡◌, map as list_map, option_map};
 ghost use Rattle.n32_values.specs.View.{tree_of};
+ghost use Rattle.json_patch6902.specs.View.{op_view};
 ghost use Rattle.context_records.specs.View.{suite_view, key_pair_view};
 ghost use Rattle.spec_script.specs.Events as spec;
 ghost use Rattle.spec_records.specs.RecordDocument as document;
@@ -14,8 +15,10 @@ use context_records::keys::read_key_pair;
 use context_records::words::{
     number_of, read_id, read_ipx, read_network, read_node_name, read_suite,
 };
+use doc_forms::{Grammar, text_at};
+use json_patch6902::{OpList, OpsRead, read_ops};
 use jwe_flat::Suite;
-use n32_values::{Hex64, Node, NodeMap, PlmnId, Text, TextList, Whole, read_hex64};
+use n32_values::{Hex64, Node, NodeList, NodeMap, PlmnId, Text, TextList, Whole, read_hex64};
 use std::alloc::Global;
 
 #[tactic(auto, using(crate::proofs::Told::told))]
@@ -23,6 +26,19 @@ pub(crate) fn name_at(alloc: Global, map: &NodeMap, member: EventMember) -> Resu
     ensures { Gives (λ t. t) result (spec.read_at spec.node_in (member_name member) map.now) }
 {
     of_member(read_node_name(alloc, map, member.name()), member)
+}
+
+pub(crate) fn identity_at(
+    alloc: Global,
+    map: &NodeMap,
+    member: EventMember,
+) -> Result<Text, EventRead>
+    ensures { Gives (λ t. t) result (spec.read_at spec.identity_in (member_name member) map.now) }
+{
+    match text_at(map, member.name(), Grammar::Identity) {
+        Some(identity) => Ok(Text::from_text(alloc, identity)?),
+        None => Err(EventRead::Member(member)),
+    }
 }
 
 #[tactic(auto, using(crate::proofs::Told::told))]
@@ -104,6 +120,34 @@ pub(crate) fn whole_at(map: &NodeMap, member: EventMember) -> Result<Whole, Even
     match map.get(member.name()) {
         Some(Node::Whole(number)) => Ok(*number),
         _ => Err(EventRead::Member(member)),
+    }
+}
+
+// The operations of a patch (RFC 6902).
+pub(crate) fn ops_at(alloc: Global, map: &NodeMap, member: EventMember) -> Result<OpList, EventRead>
+    ensures { Gives (λ ops. list_map op_view ops) result (spec.read_at spec.ops_in (member_name member) map.now) }
+{
+    let Some(node) = map.get(member.name()) else {
+        return Err(EventRead::Member(member));
+    };
+    match read_ops(alloc, node) {
+        Ok(operations) => Ok(operations),
+        Err(OpsRead::Form(_)) => Err(EventRead::Member(member)),
+        Err(OpsRead::NoMemory) => Err(EventRead::NoMemory),
+    }
+}
+
+// A value of any form, taken out, or no operation where it is absent.
+pub(crate) fn take_operations(
+    alloc: Global,
+    map: &mut NodeMap,
+    member: EventMember,
+) -> Result<Node, EventRead>
+    ensures { Gives tree_of result (spec.read_at spec.passed_in (member_name member) map.old) }
+{
+    match map.take(member.name()) {
+        Some(node) => Ok(node),
+        None => Ok(Node::Items(NodeList::new(alloc))),
     }
 }
 

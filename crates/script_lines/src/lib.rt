@@ -15,7 +15,9 @@ mod refusal;
 mod refusal_detail;
 mod unanswered;
 
-pub use answers::{delivered_text, done_text, refusal_text, sealed_text, wire_text};
+pub use answers::{
+    delivered_text, document_text, done_text, refusal_text, reported_text, wire_text,
+};
 pub use event::{Event, HandedContext};
 pub use event_fault::EventRead;
 pub use event_member::EventMember;

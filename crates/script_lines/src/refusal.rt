@@ -1,10 +1,13 @@
 // Refusals, with their numbers and names.
-ghost use Rattle.std.specs.Prelude.{◌≡◌};
+ghost use Rattle.std.specs.Prelude.{◌≡◌, option_map};
+ghost use Rattle.spec_script.specs.Answers.{report_of};
 ghost use Rattle.spec_script.specs.RefusalTexts.{telling};
 ghost use Rattle.script_lines.specs.View.{refusal_view};
 
 use block_forms::LimitName;
 use http_message::MessageMember;
+use n32_values::Doc;
+use prins_document::WireMember;
 use receiving_sepp::Refused;
 use sending_sepp::SendFault;
 
@@ -37,16 +40,25 @@ pub enum Refusal {
     PolicyForm(u32),
     /// The id is used at the node already.
     ContextUsed,
-    /// What the event asks for isn't built yet.
-    NotBuilt,
+    /// The first part of the document that keeps it from being passed on.
+    Form(WireMember),
+    /// The document is of no report.
+    Report,
     /// The message isn't sent.
     Sending(SendFault),
     /// The document isn't delivered.
-    Receiving(Refused),
+    Receiving {
+        /// Why.
+        refused: Refused,
+        /// The document that reports it to the sender, where there is one.
+        report: Option<Doc>,
+    },
     /// The held record of this number is none, or stands past the limit.
     Journal(u64),
     /// The keeper failed.
     Keeper,
+    /// The signer failed.
+    Signer,
 }
 
 impl Refusal {
@@ -68,11 +80,23 @@ impl Refusal {
             Refusal::Depth => 14,
             Refusal::PolicyForm(_) => 17,
             Refusal::ContextUsed => 44,
-            Refusal::NotBuilt => 47,
+            Refusal::Form(_) => 20,
+            Refusal::Report => 46,
             Refusal::Sending(fault) => fault.number(),
-            Refusal::Receiving(refused) => refused.number(),
+            Refusal::Receiving { refused, report: _ } => refused.number(),
             Refusal::Journal(_) => 9,
             Refusal::Keeper => 34,
+            Refusal::Signer => 36,
+        }
+    }
+
+    /// The document that reports it, where there is one.
+    pub fn report(&self) -> Option<&Doc>
+        ensures { option_map (λ d. d.now) result ≡ report_of (refusal_view self.now) }
+    {
+        match self {
+            Refusal::Receiving { refused: _, report } => report.as_ref(),
+            _ => None,
         }
     }
 
@@ -94,11 +118,13 @@ impl Refusal {
             Refusal::Depth => "DEPTH",
             Refusal::PolicyForm(_) => "POLICY_FORM",
             Refusal::ContextUsed => "CONTEXT_USED",
-            Refusal::NotBuilt => "NOT_BUILT",
+            Refusal::Form(_) => "FORM",
+            Refusal::Report => "REPORT_FORM",
             Refusal::Sending(fault) => fault.name(),
-            Refusal::Receiving(refused) => refused.name(),
+            Refusal::Receiving { refused, report: _ } => refused.name(),
             Refusal::Journal(_) => "JOURNAL",
             Refusal::Keeper => "KEEPER",
+            Refusal::Signer => "SIGNER",
         }
     }
 }

@@ -25,7 +25,8 @@ pub(crate) fn detail_text(alloc: Global, refusal: &Refusal) -> Result<Option<Tex
         Refusal::Message(member) => Text::from_text(alloc, member.name())?,
         Refusal::PolicyForm(mapping) => number_text(alloc, u64::from(*mapping))?,
         Refusal::Sending(fault) => return fault.detail(alloc),
-        Refusal::Receiving(refused) => return refused.detail(alloc),
+        Refusal::Form(part) => Text::from_text(alloc, part.name())?,
+        Refusal::Receiving { refused, report: _ } => return refused.detail(alloc),
         Refusal::Journal(number) => number_text(alloc, *number)?,
         _ => return Ok(None),
     };

@@ -3,16 +3,21 @@ use Rattle.std.proofs.Common.{◌≡◌, ℕ, ◌+◌, ◌≤◌, Bool, true, fa
 use Rattle.std.specs.Prelude.{count_by}
 use Rattle.std.proofs.lemmas.List.Sums.{sum_by-cons}
 use Rattle.spec_records.specs.Records.{KeySet, Context, Record}
-use Rattle.spec_exchange.specs.Chain.{◌>>=◌}
+use Rattle.spec_documents.specs.Tree.{Tree}
+use Rattle.spec_sealing.specs.Received.{Received}
+use Rattle.spec_sealing.specs.Entries.{signed_entry}
+use Rattle.spec_sealing.specs.Passing.{tag_text, with_room, with_entry}
+use Rattle.spec_exchange.specs.Chain.{◌>>=◌, or_refused}
 use Rattle.spec_exchange.specs.ReceivingRefusals as receiving
 use Rattle.spec_exchange.specs.SendingRefusals as sending
 use Rattle.spec_exchange.specs.Outside.{Choice, Cause, Own, Outside, no_fault, Reading, Read, ReadFails, BadRecord, Putting, Kept, Lost, KeptUntold, Outcome, behind_reading, or_refusal}
 use Rattle.spec_exchange.specs.Outside as outside
 use Rattle.spec_exchange.specs.FirstFailed.{Delivery, first_failed}
-use Rattle.spec_exchange.specs.Calls.{Sealed, Asks, delivered_record, sent_record, protected}
-use Rattle.spec_script.specs.Refusals.{Refusal}
-use Rattle.spec_script.specs.Events.{Event, AddNode, AddContext, AddKeys, Send, Inject, Deliver, Restart}
-use Rattle.spec_script.specs.Steps.{State, Answer, Step, or_refuses, puts, sends_sealed, sealed_answer, delivers, delivery_answer, has_read, opens, keys_up, step, step_with}
+use Rattle.spec_exchange.specs.Calls.{Sealed, delivered_record, sent_record, protected}
+use Rattle.spec_script.specs.Refusals.{Refusal, BadForm, SignerFailed}
+use Rattle.spec_script.specs.Events.{Event, AddNode, AddContext, AddKeys, Send, Pass, Inject, Alter, Deliver, Restart, Reported}
+use Rattle.spec_script.specs.Choices.{Signer, Signing, Signs, SignerFails, Choices, Meanings, SignsBy, IsBy, unfailing}
+use Rattle.spec_script.specs.Steps.{State, Answer, Step, or_refuses, puts, forwards, sends_sealed, sealed_answer, delivers, delivery_answer, has_read, passes_on, opens, keys_up, step, step_with}
 use Rattle.spec_script.specs.Output.{RoseBy, HaveCauses, count_after, has_refusal, is_outside_refusal}
 
 -- ---- counts
@@ -90,16 +95,27 @@ sealed_faulty n (Ok x) = refl
 sealed_faulty n (Err (Own refusal)) = refl
 sealed_faulty n (Err (Outside fault)) = refl
 
-delivery_faulty : (r : Result Delivery (Cause receiving.Refusal)) → has_refusal is_outside_refusal (delivery_answer r) ≡ faulty r
-delivery_faulty (Ok x) = refl
-delivery_faulty (Err (Own refusal)) = refl
-delivery_faulty (Err (Outside fault)) = refl
+delivery_faulty : (t : Tree) (r : Result Delivery (Cause receiving.Refusal)) → has_refusal is_outside_refusal (delivery_answer t r) ≡ faulty r
+delivery_faulty t (Ok x) = refl
+delivery_faulty t (Err (Own refusal)) = refl
+delivery_faulty t (Err (Outside fault)) = refl
 
 sealed-same : (s : State) (o p : Outcome sending.Refusal Sealed) → SameCall o p → SameStep (sends_sealed s o) (sends_sealed s p)
 sealed-same s o p h = record { is = λ z. ap (sends_sealed s) (h.is (sym (sealed_faulty _ o.result) ∙ z)) }
 
-delivery-same : (s : State) (o p : Outcome receiving.Refusal Delivery) → SameCall o p → SameStep (delivers s o) (delivers s p)
-delivery-same s o p h = record { is = λ z. ap (delivers s) (h.is (sym (delivery_faulty o.result) ∙ z)) }
+delivery-same : (s : State) (t : Tree) (o p : Outcome receiving.Refusal Delivery) → SameCall o p → SameStep (delivers s t o) (delivers s t p)
+delivery-same s t o p h = record { is = λ z. ap (delivers s t) (h.is (sym (delivery_faulty t o.result) ∙ z)) }
+
+-- a signer that fails is told behind the document's form
+unsigned : (s : State) (g : Signer) (ipx : List ℕ) (operations t : Tree) (r : Result Received (List ℕ))
+    → SameStep (or_refuses s (or_refused BadForm r >>= λ parts. Err SignerFailed)) (or_refuses s (or_refused BadForm (r >>= λ parts. Ok (with_entry t parts.entries (signed_entry g.algorithm ipx operations (tag_text parts.jwe) (g.sign ipx)))) >>= λ d. Ok (forwards s d)))
+unfolding ◌>>=◌
+unsigned s g ipx operations t (Ok parts) = record { is = λ e. cc }
+unsigned s g ipx operations t (Err member) = step_self _
+
+passed-same : (s : State) (g : Signer) (signing : Signing) (ipx : List ℕ) (operations t : Tree) → SignsBy g signing → SameStep (or_refuses s (passes_on s signing ipx operations t)) (or_refuses s (passes_on s (Signs g) ipx operations t))
+passed-same s g (Signs signer) ipx operations t by = rw by (step_self _)
+passed-same s g SignerFails ipx operations t by = unsigned s g ipx operations t (with_room t)
 
 opens-same : (s : State) (f : Choice) (x : Context) → SameStep (or_refuses s (opens s f x)) (or_refuses s (opens s no_fault x))
 opens-same s f x = step_read s f.reading _ _ (step_bind s _ _ _ λ new. step_bind s _ _ _ λ room. step_puts s f.putting _ _)
@@ -107,17 +123,20 @@ opens-same s f x = step_read s f.reading _ _ (step_bind s _ _ _ λ new. step_bin
 keys-same : (s : State) (f : Choice) (node : List ℕ) (id : ℕ) (set : KeySet) → SameStep (or_refuses s (keys_up s f node id set)) (or_refuses s (keys_up s no_fault node id set))
 keys-same s f node id set = step_read s f.reading _ _ (step_bind s _ _ _ λ x. step_bind s _ _ _ λ new. step_bind s _ _ _ λ fit. step_bind s _ _ _ λ room. step_puts s f.putting _ _)
 
-step-same : (s : State) (f : Choice) (e : Event) → SameStep (step s f e) (step s no_fault e)
-step-same s f (AddNode node plmn) = step_self _
-step-same s f (AddContext x) = step_bind s _ _ _ λ plmn. step_bind s _ _ _ λ policy. opens-same s f _
-step-same s f (AddKeys node id set) = step_bind s _ _ _ λ plmn. keys-same s f node id set
-step-same s f (Send node id t answers) = step_bind s _ _ _ λ plmn. step_bind s _ _ _ λ m.
-    sealed-same s _ _ (call_read f.reading _ _ (call_chain f.putting sent_record (protected s.records node id Asks m)))
-step-same s f (Inject t) = step_self _
-step-same s f (Deliver node number) = step_bind s _ _ _ λ plmn. step_bind s _ _ _ λ t.
-    delivery-same s _ _ (call_read f.reading _ _ (call_chain f.putting delivered_record (first_failed s.records node t)))
-step-same s f (Restart node) = step_self _
+step-same : (m : Meanings) (s : State) (f : Choices) → IsBy m f → (e : Event) → SameStep (step s f e) (step s (unfailing m) e)
+step-same m s f by (AddNode node plmn) = step_self _
+step-same m s f by (AddContext x) = step_bind s _ _ _ λ plmn. step_bind s _ _ _ λ policy. opens-same s f.keeper _
+step-same m s f by (AddKeys node id set) = step_bind s _ _ _ λ plmn. keys-same s f.keeper node id set
+step-same m s f by (Send node id t answers) = step_bind s _ _ _ λ plmn. step_bind s _ _ _ λ room. step_bind s _ _ _ λ x.
+    sealed-same s _ _ (call_read f.keeper.reading _ _ (call_chain f.keeper.putting sent_record (protected s.records node id x.0 x.1)))
+step-same m s f by (Pass ipx number operations) = step_bind s _ _ _ λ t. step_bind s _ _ _ λ room. passed-same s m.signer f.signer ipx operations t by
+step-same m s f by (Inject t) = step_self _
+step-same m s f by (Alter number ops) = step_self _
+step-same m s f by (Deliver node number) = step_bind s _ _ _ λ plmn. step_bind s _ _ _ λ t.
+    delivery-same s t _ _ (call_read f.keeper.reading _ _ (call_chain f.keeper.putting delivered_record (first_failed s.records node t)))
+step-same m s f by (Restart node) = step_self _
+step-same m s f by (Reported node t) = step_self _
 
-pub line_determined : (s : State) (f : Choice) (r : Result Event Refusal) → has_refusal is_outside_refusal (step_with s f r).answer ≡ false → step_with s f r ≡ step_with s no_fault r
-line_determined s f (Ok e) h = (step-same s f e).is h
-line_determined s f (Err e) h = refl
+pub line_determined : (m : Meanings) (s : State) (f : Choices) → IsBy m f → (r : Result Event Refusal) → has_refusal is_outside_refusal (step_with s f r).answer ≡ false → step_with s f r ≡ step_with s (unfailing m) r
+line_determined m s f by (Ok e) h = (step-same m s f by e).is h
+line_determined m s f by (Err e) h = refl

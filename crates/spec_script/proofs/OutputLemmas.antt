@@ -10,14 +10,15 @@ use Rattle.spec_messages.specs.Message.{Message, Kind}
 use Rattle.spec_records.specs.Records.{Record, own, is_delivery, is_numbered, was_delivered, was_sent}
 use Rattle.spec_exchange.specs.ReceivingRefusals as receiving
 use Rattle.spec_exchange.specs.SendingRefusals as sending
-use Rattle.spec_exchange.specs.Outside.{Choice, Cause, Putting, Kept, Lost, KeptUntold, with_put}
+use Rattle.spec_exchange.specs.Outside.{Cause, Putting, Kept, Lost, KeptUntold, with_put}
 use Rattle.spec_exchange.specs.FirstFailed.{Delivery}
-use Rattle.spec_exchange.specs.Calls.{Sealed, Asks, accepted, sends}
+use Rattle.spec_exchange.specs.Calls.{Sealed, Outgoing, accepted, sends}
 use Rattle.spec_exchange.specs.Runs
 use Rattle.spec_exchange.proofs.RunLemmas.{bit, bit-below, held-more, delivered-step, numbered-step}
 use Rattle.spec_documents.specs.Lines.{is_blank, Outputs}
 use Rattle.spec_script.specs.Events.{line_event}
-use Rattle.spec_script.specs.Steps.{State, Answer, Step, refuses, does, injects, adds_node, puts, sends_sealed, sealed_answer, delivers, delivery_answer, line_step}
+use Rattle.spec_script.specs.Choices.{Choices, Meanings}
+use Rattle.spec_script.specs.Steps.{State, Answer, Step, refuses, does, injects, forwards, reports, adds_node, puts, sends_sealed, sealed_answer, delivers, delivery_answer, line_step}
 use Rattle.spec_script.specs.Answers.{answer_text}
 use Rattle.spec_script.specs.Output.{Answers, Answered, Numbered, answers_text, GivesAnswer, reply_in}
 use Rattle.spec_script.specs.Output as output
@@ -45,23 +46,25 @@ put_not p e s Lost name r = e
 put_not p e s KeptUntold name r = e
 
 -- an event counts, where its own calls do
-counts : (p : Runs.Reply → Bool) (q : Record → Bool) (node : List ℕ) (id : ℕ) (s : State) (f : Choice) → p Runs.Other ≡ false
-    → ((n : List ℕ) (i : ℕ) (m : Message) → Counts p q node id s (sends_sealed s (sends f s.records n i Asks m)))
-    → ((n : List ℕ) (t : Tree) → Counts p q node id s (delivers s (accepted f s.records n t)))
+counts : (p : Runs.Reply → Bool) (q : Record → Bool) (node : List ℕ) (id : ℕ) (s : State) (f : Choices) → p Runs.Other ≡ false
+    → ((n : List ℕ) (i : ℕ) (o : Outgoing) (m : Message) → Counts p q node id s (sends_sealed s (sends f.keeper s.records n i o m)))
+    → ((n : List ℕ) (t : Tree) → Counts p q node id s (delivers s t (accepted f.keeper s.records n t)))
     → (line : List ℕ) → Counts p q node id s (line_step s f line)
 counts p q node id s f e sealed came line = line_covered (λ r. Counts p q node id s r) s f (record {
   refused = λ d. uncounted p q node id s (refuses s d) e;
   done = λ name. uncounted p q node id s (does s name) e;
   node = λ n plmn. uncounted p q node id s (adds_node s n plmn) e;
-  put = λ name r. uncounted p q node id s (puts s f.putting name r) (put_not p e s f.putting name r);
+  put = λ name r. uncounted p q node id s (puts s f.keeper.putting name r) (put_not p e s f.keeper.putting name r);
   injected = λ t. uncounted p q node id s (injects s t) e;
+  forwarded = λ t. uncounted p q node id s (forwards s t) e;
+  reported = λ r. uncounted p q node id s (reports s r) e;
   sealed = sealed;
   came = came;
 }) (line_event line)
 
-delivers_told : (node : List ℕ) (id : ℕ) (kind : Kind) (message : ℕ) (r : Result Delivery (Cause receiving.Refusal)) → Runs.delivers node id kind message (reply_in (delivery_answer r)) ≡ Runs.delivers node id kind message (Runs.told r)
-delivers_told node id kind message (Ok d) = refl
-delivers_told node id kind message (Err e) = refl
+delivers_told : (node : List ℕ) (id : ℕ) (kind : Kind) (message : ℕ) (t : Tree) (r : Result Delivery (Cause receiving.Refusal)) → Runs.delivers node id kind message (reply_in (delivery_answer t r)) ≡ Runs.delivers node id kind message (Runs.told r)
+delivers_told node id kind message t (Ok d) = refl
+delivers_told node id kind message t (Err e) = refl
 
 numbers_made : (node : List ℕ) (id : ℕ) (kind : Kind) (seq n : ℕ) (r : Result Sealed (Cause sending.Refusal)) → Runs.numbers node id kind seq (reply_in (sealed_answer n r)) ≡ Runs.numbers node id kind seq (Runs.made r)
 numbers_made node id kind seq n (Ok x) = refl
@@ -71,47 +74,47 @@ sealed_not : (node : List ℕ) (id : ℕ) (kind : Kind) (message n : ℕ) (r : R
 sealed_not node id kind message n (Ok x) = refl
 sealed_not node id kind message n (Err e) = refl
 
-came_not : (node : List ℕ) (id : ℕ) (kind : Kind) (seq : ℕ) (r : Result Delivery (Cause receiving.Refusal)) → Runs.numbers node id kind seq (reply_in (delivery_answer r)) ≡ false
-came_not node id kind seq (Ok d) = refl
-came_not node id kind seq (Err e) = refl
+came_not : (node : List ℕ) (id : ℕ) (kind : Kind) (seq : ℕ) (t : Tree) (r : Result Delivery (Cause receiving.Refusal)) → Runs.numbers node id kind seq (reply_in (delivery_answer t r)) ≡ false
+came_not node id kind seq t (Ok d) = refl
+came_not node id kind seq t (Err e) = refl
 
-delivers-counts : (node : List ℕ) (id : ℕ) (kind : Kind) (message : ℕ) (s : State) (f : Choice) (line : List ℕ) → Counts (Runs.delivers node id kind message) (is_delivery kind message) node id s (line_step s f line)
+delivers-counts : (node : List ℕ) (id : ℕ) (kind : Kind) (message : ℕ) (s : State) (f : Choices) (line : List ℕ) → Counts (Runs.delivers node id kind message) (is_delivery kind message) node id s (line_step s f line)
 delivers-counts node id kind message s f = counts (Runs.delivers node id kind message) (is_delivery kind message) node id s f refl
-    (λ n i m. uncounted (Runs.delivers node id kind message) (is_delivery kind message) node id s (sends_sealed s (sends f s.records n i Asks m)) (sealed_not node id kind message _ (sends f s.records n i Asks m).result))
-    (λ n t. rw delivers_told (delivered-step node id kind message s.records f (Runs.Deliver n t)))
+    (λ n i o m. uncounted (Runs.delivers node id kind message) (is_delivery kind message) node id s (sends_sealed s (sends f.keeper s.records n i o m)) (sealed_not node id kind message _ (sends f.keeper s.records n i o m).result))
+    (λ n t. rw delivers_told (delivered-step node id kind message s.records f.keeper (Runs.Deliver n t)))
 
-numbers-counts : (node : List ℕ) (id : ℕ) (kind : Kind) (seq : ℕ) (s : State) (f : Choice) (line : List ℕ) → Counts (Runs.numbers node id kind seq) (is_numbered kind seq) node id s (line_step s f line)
+numbers-counts : (node : List ℕ) (id : ℕ) (kind : Kind) (seq : ℕ) (s : State) (f : Choices) (line : List ℕ) → Counts (Runs.numbers node id kind seq) (is_numbered kind seq) node id s (line_step s f line)
 numbers-counts node id kind seq s f = counts (Runs.numbers node id kind seq) (is_numbered kind seq) node id s f refl
-    (λ n i m. rw numbers_made (numbered-step node id kind seq s.records f (Runs.Send n i Asks m)))
-    (λ n t. uncounted (Runs.numbers node id kind seq) (is_numbered kind seq) node id s (delivers s (accepted f s.records n t)) (came_not node id kind seq (accepted f s.records n t).result))
+    (λ n i o m. rw numbers_made (numbered-step node id kind seq s.records f.keeper (Runs.Send n i o m)))
+    (λ n t. uncounted (Runs.numbers node id kind seq) (is_numbered kind seq) node id s (delivers s t (accepted f.keeper s.records n t)) (came_not node id kind seq t (accepted f.keeper s.records n t).result))
 
 -- one answer more
-one_more : (p : Runs.Reply → Bool) (q : Record → Bool) (node : List ℕ) (id : ℕ) → ((s : State) (f : Choice) (line : List ℕ) → Counts p q node id s (line_step s f line))
-    → (s : State) (line : List ℕ) (a : Answer) (mid : State) → Answers s line a mid → bit (p (reply_in a)) + bit (list_any q (own node id s.records)) ≤ bit (list_any q (own node id mid.records))
-one_more p q node id each s line a mid h = rw (h.1, h.2) (each s h.0 line)
+one_more : (m : Meanings) (p : Runs.Reply → Bool) (q : Record → Bool) (node : List ℕ) (id : ℕ) → ((s : State) (f : Choices) (line : List ℕ) → Counts p q node id s (line_step s f line))
+    → (s : State) (line : List ℕ) (a : Answer) (mid : State) → Answers m s line a mid → bit (p (reply_in a)) + bit (list_any q (own node id s.records)) ≤ bit (list_any q (own node id mid.records))
+one_more m p q node id each s line a mid h = rw (h.2, h.3) (each s h.0 line)
 
 -- over a whole run
-run-counts : (p : Runs.Reply → Bool) (q : Record → Bool) (node : List ℕ) (id : ℕ) → ((s : State) (f : Choice) (line : List ℕ) → Counts p q node id s (line_step s f line))
-    → (s : State) (n : ℕ) (lines : List (List ℕ)) (answers : List Numbered) (last : State) → Answered s n lines answers last → count_by (λ (x : Numbered). p (reply_in x.1)) answers + bit (list_any q (own node id s.records)) ≤ 1
-run-counts p q node id each s n [] answers last h = rw (h.0) (omega (arith, bit-below (list_any q (own node id s.records))))
-run-counts p q node id each s n (line ∷ lines) answers last h =
+run-counts : (m : Meanings) (p : Runs.Reply → Bool) (q : Record → Bool) (node : List ℕ) (id : ℕ) → ((s : State) (f : Choices) (line : List ℕ) → Counts p q node id s (line_step s f line))
+    → (s : State) (n : ℕ) (lines : List (List ℕ)) (answers : List Numbered) (last : State) → Answered m s n lines answers last → count_by (λ (x : Numbered). p (reply_in x.1)) answers + bit (list_any q (own node id s.records)) ≤ 1
+run-counts m p q node id each s n [] answers last h = rw (h.0) (omega (arith, bit-below (list_any q (own node id s.records))))
+run-counts m p q node id each s n (line ∷ lines) answers last h =
     by_line (is_blank line) h
-    (λ blank k. run-counts p q node id each s (n + 1) lines answers last k)
-    λ spoken k. spoken_counts k (run-counts p q node id each k.2 (n + 1) lines k.1 last k.5)
+    (λ blank k. run-counts m p q node id each s (n + 1) lines answers last k)
+    λ spoken k. spoken_counts k (run-counts m p q node id each k.2 (n + 1) lines k.1 last k.5)
   where
-    spoken_counts : (k : (a : Answer) × (rest : List Numbered) × (mid : State) × (answers ≡ (n, a) ∷ rest) × Answers s line a mid × Answered mid (n + 1) lines rest last)
+    spoken_counts : (k : (a : Answer) × (rest : List Numbered) × (mid : State) × (answers ≡ (n, a) ∷ rest) × Answers m s line a mid × Answered m mid (n + 1) lines rest last)
         → count_by (λ (x : Numbered). p (reply_in x.1)) k.1 + bit (list_any q (own node id k.2.records)) ≤ 1
         → count_by (λ (x : Numbered). p (reply_in x.1)) answers + bit (list_any q (own node id s.records)) ≤ 1
     spoken_counts k ih = rw (k.3)
-        (omega (arith, sum_by-cons (λ (x : Numbered). bit (p (reply_in x.1))) (n, k.0) k.1, one_more p q node id each s line k.0 k.2 k.4, ih))
+        (omega (arith, sum_by-cons (λ (x : Numbered). bit (p (reply_in x.1))) (n, k.0) k.1, one_more m p q node id each s line k.0 k.2 k.4, ih))
 
-pub run-delivered : (s : State) (n : ℕ) (lines : List (List ℕ)) (answers : List Numbered) (last : State) → Answered s n lines answers last → (node : List ℕ) (id : ℕ) (kind : Kind) (message : ℕ)
+pub run-delivered : (m : Meanings) (s : State) (n : ℕ) (lines : List (List ℕ)) (answers : List Numbered) (last : State) → Answered m s n lines answers last → (node : List ℕ) (id : ℕ) (kind : Kind) (message : ℕ)
     → count_by (output.delivers node id kind message) answers + bit (was_delivered node id kind message s.records) ≤ 1
-run-delivered s n lines answers last h node id kind message = run-counts (Runs.delivers node id kind message) (is_delivery kind message) node id (delivers-counts node id kind message) s n lines answers last h
+run-delivered m s n lines answers last h node id kind message = run-counts m (Runs.delivers node id kind message) (is_delivery kind message) node id (delivers-counts node id kind message) s n lines answers last h
 
-pub run-numbered : (s : State) (n : ℕ) (lines : List (List ℕ)) (answers : List Numbered) (last : State) → Answered s n lines answers last → (node : List ℕ) (id : ℕ) (kind : Kind) (seq : ℕ)
+pub run-numbered : (m : Meanings) (s : State) (n : ℕ) (lines : List (List ℕ)) (answers : List Numbered) (last : State) → Answered m s n lines answers last → (node : List ℕ) (id : ℕ) (kind : Kind) (seq : ℕ)
     → count_by (output.numbers node id kind seq) answers + bit (was_sent node id kind seq s.records) ≤ 1
-run-numbered s n lines answers last h node id kind seq = run-counts (Runs.numbers node id kind seq) (is_numbered kind seq) node id (numbers-counts node id kind seq) s n lines answers last h
+run-numbered m s n lines answers last h node id kind seq = run-counts m (Runs.numbers node id kind seq) (is_numbered kind seq) node id (numbers-counts node id kind seq) s n lines answers last h
 
 -- ---- records grow
 
@@ -128,20 +131,20 @@ grown_one records (Some r) = record { more = r ∷ []; are = refl; most = omega 
 grown_then : (n : ℕ) (a b c : List Record) → Grown 1 a b → Grown n b c → Grown (suc n) a c
 grown_then n a b c g h = record { more = g.more ++ h.more; are = grind (arith, common_steps); most = grind (arith, common_steps) }
 
-one_grown : (s : State) (line : List ℕ) (a : Answer) (mid : State) → Answers s line a mid → Grown 1 s.records mid.records
-one_grown s line a mid h = rw (h.2) (grown_one s.records (line_step s h.0 line).put)
+one_grown : (m : Meanings) (s : State) (line : List ℕ) (a : Answer) (mid : State) → Answers m s line a mid → Grown 1 s.records mid.records
+one_grown m s line a mid h = rw (h.3) (grown_one s.records (line_step s h.0 line).put)
 
-pub run-grown : (s : State) (n : ℕ) (lines : List (List ℕ)) (answers : List Numbered) (last : State) → Answered s n lines answers last → Grown (length answers) s.records last.records
-run-grown s n [] answers last h = rw (h.0, h.1) (record { more = []; are = sym (append-nil s.records); most = omega arith })
-run-grown s n (line ∷ lines) answers last h =
+pub run-grown : (m : Meanings) (s : State) (n : ℕ) (lines : List (List ℕ)) (answers : List Numbered) (last : State) → Answered m s n lines answers last → Grown (length answers) s.records last.records
+run-grown m s n [] answers last h = rw (h.0, h.1) (record { more = []; are = sym (append-nil s.records); most = omega arith })
+run-grown m s n (line ∷ lines) answers last h =
     by_line (is_blank line) h
-    (λ blank k. run-grown s (n + 1) lines answers last k)
-    λ spoken k. spoken_grown k (run-grown k.2 (n + 1) lines k.1 last k.5)
+    (λ blank k. run-grown m s (n + 1) lines answers last k)
+    λ spoken k. spoken_grown k (run-grown m k.2 (n + 1) lines k.1 last k.5)
   where
-    spoken_grown : (k : (a : Answer) × (rest : List Numbered) × (mid : State) × (answers ≡ (n, a) ∷ rest) × Answers s line a mid × Answered mid (n + 1) lines rest last)
+    spoken_grown : (k : (a : Answer) × (rest : List Numbered) × (mid : State) × (answers ≡ (n, a) ∷ rest) × Answers m s line a mid × Answered m mid (n + 1) lines rest last)
         → Grown (length k.1) k.2.records last.records → Grown (length answers) s.records last.records
     spoken_grown k ih = rw (k.3)
-        (grown_then (length k.1) s.records k.2.records last.records (one_grown s line k.0 k.2 k.4) ih)
+        (grown_then (length k.1) s.records k.2.records last.records (one_grown m s line k.0 k.2 k.4) ih)
 
 -- ---- a run goes on
 
@@ -152,40 +155,40 @@ into_spoken : (B N : Type 0) (b : Bool) → b ≡ false → N → MatchBool b B 
 into_spoken B N b e x = rw e x
 
 -- k is the number of the further line
-pub run-push : (s : State) (n : ℕ) (lines : List (List ℕ)) (answers : List Numbered) (mid : State) (line : List ℕ) (a : Answer) (last : State) (k : ℕ)
-    → k ≡ n + length lines → Answered s n lines answers mid → is_blank line ≡ false → Answers mid line a last → Answered s n (lines ++ line ∷ []) (answers ++ (k, a) ∷ []) last
-run-push s n [] answers mid line a last k e h spoken one =
+pub run-push : (m : Meanings) (s : State) (n : ℕ) (lines : List (List ℕ)) (answers : List Numbered) (mid : State) (line : List ℕ) (a : Answer) (last : State) (k : ℕ)
+    → k ≡ n + length lines → Answered m s n lines answers mid → is_blank line ≡ false → Answers m mid line a last → Answered m s n (lines ++ line ∷ []) (answers ++ (k, a) ∷ []) last
+run-push m s n [] answers mid line a last k e h spoken one =
     let at : k ≡ n = omega (arith, e) in
     let alone : answers ++ (k, a) ∷ [] ≡ (n, a) ∷ [] = ap (λ (xs : List Numbered). xs ++ (k, a) ∷ []) (h.0) ∙ ap (λ (i : ℕ). (i, a) ∷ []) at in
-    let P : State → Type 0 = λ z. Answers z line a last in
+    let P : State → Type 0 = λ z. Answers m z line a last in
     into_spoken _ _ (is_blank line) spoken (a, [], last, alone, subst P (h.1) one, (refl, refl))
-run-push s n (x ∷ xs) answers mid line a last k e h spoken one =
+run-push m s n (x ∷ xs) answers mid line a last k e h spoken one =
     by_line (is_blank x) h
-    (λ blank more. into_blank _ _ (is_blank x) blank (run-push s (n + 1) xs answers mid line a last k (omega (arith, e)) more spoken one))
+    (λ blank more. into_blank _ _ (is_blank x) blank (run-push m s (n + 1) xs answers mid line a last k (omega (arith, e)) more spoken one))
     λ other b. into_spoken _ _ (is_blank x) other
-    (b.0, b.1 ++ (k, a) ∷ [], b.2, ap (λ (ys : List Numbered). ys ++ (k, a) ∷ []) (b.3), b.4, run-push b.2 (n + 1) xs b.1 mid line a last k (omega (arith, e)) b.5 spoken one)
+    (b.0, b.1 ++ (k, a) ∷ [], b.2, ap (λ (ys : List Numbered). ys ++ (k, a) ∷ []) (b.3), b.4, run-push m b.2 (n + 1) xs b.1 mid line a last k (omega (arith, e)) b.5 spoken one)
 
 -- ---- what a reading loop writes
 
 -- a run and the text of its answers
-pub record Written (s : State) (n : ℕ) (lines : List (List ℕ)) (out : List ℕ) (last : State) : Type 0 where
+pub record Written (m : Meanings) (s : State) (n : ℕ) (lines : List (List ℕ)) (out : List ℕ) (last : State) : Type 0 where
   pub answers : List Numbered
-  pub answered : Answered s n lines answers last
+  pub answered : Answered m s n lines answers last
   pub text : out ≡ answers_text answers
 
-blank_written : (s mid : State) (n : ℕ) (line : List ℕ) (lines : List (List ℕ)) (out first rest : List ℕ) (last : State) → is_blank line ≡ true → out ≡ first ++ rest → (first ≡ []) × (mid ≡ s)
-    → Written mid (n + 1) lines rest last → Written s n (line ∷ lines) out last
-blank_written s mid n line lines out first rest last blank e h w =
-    let P : State → Type 0 = λ z. Answered z (n + 1) lines w.answers last in
+blank_written : (m : Meanings) (s mid : State) (n : ℕ) (line : List ℕ) (lines : List (List ℕ)) (out first rest : List ℕ) (last : State) → is_blank line ≡ true → out ≡ first ++ rest → (first ≡ []) × (mid ≡ s)
+    → Written m mid (n + 1) lines rest last → Written m s n (line ∷ lines) out last
+blank_written m s mid n line lines out first rest last blank e h w =
+    let P : State → Type 0 = λ z. Answered m z (n + 1) lines w.answers last in
     record {
       answers = w.answers;
       answered = into_blank _ _ (is_blank line) blank (subst P (h.1) w.answered);
       text = e ∙ (ap (λ (z : List ℕ). z ++ rest) (h.0) ∙ w.text);
     }
 
-spoken_written : (s mid : State) (n : ℕ) (line : List ℕ) (lines : List (List ℕ)) (out first rest answer : List ℕ) (last : State) → is_blank line ≡ false → out ≡ first ++ rest → first ≡ answer ++ 10 ∷ [] → GivesAnswer s n line answer mid
-    → Written mid (n + 1) lines rest last → Written s n (line ∷ lines) out last
-spoken_written s mid n line lines out first rest answer last spoken e f g w =
+spoken_written : (m : Meanings) (s mid : State) (n : ℕ) (line : List ℕ) (lines : List (List ℕ)) (out first rest answer : List ℕ) (last : State) → is_blank line ≡ false → out ≡ first ++ rest → first ≡ answer ++ 10 ∷ [] → GivesAnswer m s n line answer mid
+    → Written m mid (n + 1) lines rest last → Written m s n (line ∷ lines) out last
+spoken_written m s mid n line lines out first rest answer last spoken e f g w =
     let one : first ≡ answer_text n g.answer ++ 10 ∷ [] = f ∙ ap (λ (z : List ℕ). z ++ 10 ∷ []) g.text_is in
     record {
       answers = (n, g.answer) ∷ w.answers;
@@ -193,10 +196,10 @@ spoken_written s mid n line lines out first rest answer last spoken e f g w =
       text = e ∙ (ap (λ (z : List ℕ). z ++ rest) one ∙ ap (λ (z : List ℕ). (answer_text n g.answer ++ 10 ∷ []) ++ z) w.text);
     }
 
-pub run-written : (s : State) (n : ℕ) (lines : List (List ℕ)) (out : List ℕ) (last : State) → Outputs GivesAnswer s n lines out last → Written s n lines out last
-run-written s n [] out last h = record { answers = []; answered = (refl, h.1); text = h.0 }
-run-written s n (line ∷ lines) out last h =
-    let w = run-written h.2 (n + 1) lines h.1 last h.5 in
+pub run-written : (m : Meanings) (s : State) (n : ℕ) (lines : List (List ℕ)) (out : List ℕ) (last : State) → Outputs (GivesAnswer m) s n lines out last → Written m s n lines out last
+run-written m s n [] out last h = record { answers = []; answered = (refl, h.1); text = h.0 }
+run-written m s n (line ∷ lines) out last h =
+    let w = run-written m h.2 (n + 1) lines h.1 last h.5 in
     by_line (is_blank line) h.4
-    (λ blank k. blank_written s h.2 n line lines out h.0 h.1 last blank h.3 k w)
-    λ spoken k. spoken_written s h.2 n line lines out h.0 h.1 k.0 last spoken h.3 k.1 k.2 w
+    (λ blank k. blank_written m s h.2 n line lines out h.0 h.1 last blank h.3 k w)
+    λ spoken k. spoken_written m s h.2 n line lines out h.0 h.1 k.0 last spoken h.3 k.1 k.2 w

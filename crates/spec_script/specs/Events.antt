@@ -1,9 +1,11 @@
 -- The events of a script and their documents (this project's own): each line is an object whose member `do` names the event; other members than its own are ignored.
 use Rattle.std.specs.Prelude.{ℕ, ℤ, List, Option, Some, None, unwrap_or, Result, Ok, Err, if◌then◌else◌, bytes_eq, codes}
-use Rattle.spec_documents.specs.Tree.{Tree, null, truth, whole, words, items, members, Members, get_member}
+use Rattle.spec_documents.specs.Tree.{Tree, null, truth, whole, words, items, no_items, members, Members, get_member}
 use Rattle.spec_documents.specs.Place.{◌>>=◌}
 use Rattle.spec_documents.specs.Ids.{id_of, plmn_of}
-use Rattle.spec_documents.specs.Text.{is_node_name}
+use Rattle.spec_documents.specs.Text.{is_identity, is_node_name}
+use Rattle.spec_documents.specs.Patch.{Op}
+use Rattle.spec_documents.specs.Operations.{ops_of}
 use Rattle.spec_messages.specs.Message.{wanted, text_in, any_text}
 use Rattle.spec_messages.specs.Policy.{result_ok}
 use Rattle.spec_messages.specs.PolicyDocument.{chosen, if_there}
@@ -31,11 +33,17 @@ pub data Event : Type 0 where
   AddKeys : (node : List ℕ) (id : ℕ) (keys : KeySet) → Event
   -- a message, and the id of the request that it answers
   Send : (node : List ℕ) (id : ℕ) (message : Tree) (answers : Option ℕ) → Event
+  -- an intermediary passes the document of that number on, with an entry of these operations
+  Pass : (ipx : List ℕ) (wire : ℤ) (operations : Tree) → Event
   -- a document is put on the wire
   Inject : (document : Tree) → Event
+  -- the document of that number goes on the wire again, with these operations applied
+  Alter : (wire : ℤ) (operations : List Op) → Event
   -- the document of that number on the wire reaches a node
   Deliver : (node : List ℕ) (wire : ℤ) → Event
   Restart : (node : List ℕ) → Event
+  -- a report of its peer reaches a node
+  Reported : (node : List ℕ) (document : Tree) → Event
 
 -- ---- members
 
@@ -79,6 +87,19 @@ first_in o = if_there number_of o
 abbrev pub answers_in : Option Tree → Option (Option ℕ)
 answers_in o = if_there (λ t. id_in (Some t)) o
 
+abbrev pub identity_in : Option Tree → Option (List ℕ)
+identity_in o = text_in is_identity o
+
+-- any value, and no operation where it is absent
+abbrev pub passed_in : Option Tree → Option Tree
+passed_in None = Some (items no_items)
+passed_in (Some t) = Some t
+
+-- the operations of a patch
+abbrev pub ops_in : Option Tree → Option (List Op)
+ops_in None = None
+ops_in (Some t) = result_ok (ops_of t)
+
 -- ---- the event of an object, or the first member, in this order, that is missing or has not its form
 
 abbrev pub node_event : Members → Result Event (List ℕ)
@@ -117,6 +138,25 @@ send_event ms =
     read_at answers_in (codes "answers") ms >>= λ answers.
     Ok (Send node id message answers)
 
+abbrev pub pass_event : Members → Result Event (List ℕ)
+pass_event ms =
+    read_at identity_in (codes "ipx") ms >>= λ ipx.
+    read_at whole_in (codes "wire") ms >>= λ wire.
+    read_at passed_in (codes "operations") ms >>= λ operations.
+    Ok (Pass ipx wire operations)
+
+abbrev pub alter_event : Members → Result Event (List ℕ)
+alter_event ms =
+    read_at whole_in (codes "wire") ms >>= λ wire.
+    read_at ops_in (codes "operations") ms >>= λ operations.
+    Ok (Alter wire operations)
+
+abbrev pub reported_event : Members → Result Event (List ℕ)
+reported_event ms =
+    read_at node_in (codes "node") ms >>= λ node.
+    read_at any_value (codes "document") ms >>= λ document.
+    Ok (Reported node document)
+
 abbrev pub inject_event : Members → Result Event (List ℕ)
 inject_event ms =
     read_at any_value (codes "document") ms >>= λ document.
@@ -142,7 +182,10 @@ event_named name ms =
     else (if bytes_eq name (codes "send") then send_event ms
     else (if bytes_eq name (codes "inject") then inject_event ms
     else (if bytes_eq name (codes "deliver") then deliver_event ms
-    else (if bytes_eq name (codes "restart") then restart_event ms else Err (codes "do")))))))
+    else (if bytes_eq name (codes "restart") then restart_event ms
+    else (if bytes_eq name (codes "pass") then pass_event ms
+    else (if bytes_eq name (codes "alter") then alter_event ms
+    else (if bytes_eq name (codes "reported") then reported_event ms else Err (codes "do"))))))))))
 
 abbrev pub event_with : Members → Result Event (List ℕ)
 event_with ms = read_at (text_in any_text) (codes "do") ms >>= λ name. event_named name ms

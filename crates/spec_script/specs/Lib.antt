@@ -3,6 +3,9 @@ pub mod RefusalTexts
 pub mod LineTree
 pub mod Messages
 pub mod Events
+pub mod Choices
+pub mod Altering
+pub mod Reports
 pub mod Steps
 pub mod Answers
 pub mod Output

@@ -1,29 +1,30 @@
--- The answers to the lines of a script, each line with free choices of the keeper, and their texts (this project's own).
+-- The answers to the lines of a script, each line with free choices of the outside, and their texts (this project's own).
 use Rattle.std.specs.Prelude.{◌≡◌, ℕ, ◌+◌, ◌-◌, ◌^◌, ◌≤◌, min, Bool, true, false, MatchBool, List, [], ◌∷◌, ◌++◌}
 use Rattle.spec_messages.specs.Message.{Kind}
 use Rattle.spec_records.specs.Records.{Record}
-use Rattle.spec_exchange.specs.Outside.{Choice, Keeper}
+use Rattle.spec_exchange.specs.Outside.{Keeper}
+use Rattle.spec_script.specs.Choices.{Choices, Meanings, IsBy}
 use Rattle.spec_exchange.specs.Runs
 use Rattle.spec_documents.specs.Lines.{lines_of, is_blank}
-use Rattle.spec_script.specs.Refusals.{Refusal, OfOutside}
+use Rattle.spec_script.specs.Refusals.{Refusal, OfOutside, SignerFailed}
 use Rattle.spec_script.specs.Steps.{State, Answer, Sends, Delivers, Refuses, after, line_step}
 use Rattle.spec_script.specs.Answers.{answer_text}
 
 -- in state s the line may have this answer, and then state t is reached
-abbrev pub Answers : State → List ℕ → Answer → State → Type 0
-Answers s line a t = (f : Choice) × (a ≡ (line_step s f line).answer) × (t ≡ after s (line_step s f line))
+abbrev pub Answers : Meanings → State → List ℕ → Answer → State → Type 0
+Answers m s line a t = (f : Choices) × IsBy m f × (a ≡ (line_step s f line).answer) × (t ≡ after s (line_step s f line))
 
 -- a line's number and its answer
 abbrev pub Numbered : Type 0
 Numbered = ℕ × Answer
 
 -- in state s these lines, the first of them line n, may have these answers, and then state t is reached. A blank line has none
-abbrev pub Answered : State → ℕ → List (List ℕ) → List Numbered → State → Type 0
-Answered s n [] answers t = (answers ≡ []) × (t ≡ s)
-Answered s n (line ∷ lines) answers t =
+abbrev pub Answered : Meanings → State → ℕ → List (List ℕ) → List Numbered → State → Type 0
+Answered m s n [] answers t = (answers ≡ []) × (t ≡ s)
+Answered m s n (line ∷ lines) answers t =
     MatchBool (is_blank line)
-    (Answered s (n + 1) lines answers t)
-    ((a : Answer) × (rest : List Numbered) × (mid : State) × (answers ≡ (n, a) ∷ rest) × Answers s line a mid × Answered mid (n + 1) lines rest t)
+    (Answered m s (n + 1) lines answers t)
+    ((a : Answer) × (rest : List Numbered) × (mid : State) × (answers ≡ (n, a) ∷ rest) × Answers m s line a mid × Answered m mid (n + 1) lines rest t)
 
 -- the text of answers, each with a newline
 abbrev pub answers_text : List Numbered → List ℕ
@@ -35,15 +36,15 @@ abbrev pub begin : List Record → State
 begin records = record { sites = []; wire = []; records = records }
 
 -- the bytes may be the output for a script over these records, and t is the last state
-pub record Output (records : List Record) (script : List ℕ) (out : List ℕ) (t : State) : Type 0 where
+pub record Output (m : Meanings) (records : List Record) (script : List ℕ) (out : List ℕ) (t : State) : Type 0 where
   pub answers : List Numbered
-  pub answered : Answered (begin records) 1 (lines_of script) answers t
+  pub answered : Answered m (begin records) 1 (lines_of script) answers t
   pub text : out ≡ answers_text answers
 
 -- the text may answer line n in state s, and then state t is reached: what a reading loop asks of a machine
-pub record GivesAnswer (s : State) (n : ℕ) (line text : List ℕ) (t : State) : Type 0 where
+pub record GivesAnswer (m : Meanings) (s : State) (n : ℕ) (line text : List ℕ) (t : State) : Type 0 where
   pub answer : Answer
-  pub answers : Answers s line answer t
+  pub answers : Answers m s line answer t
   pub text_is : text ≡ answer_text n answer
 
 -- ---- what an answer is
@@ -70,9 +71,14 @@ abbrev pub is_keeper_refusal : Refusal → Bool
 is_keeper_refusal (OfOutside Keeper) = true
 is_keeper_refusal _ = false
 
--- an answer that only a fault of the keeper, or a record that it holds, gives
+abbrev pub is_signer_refusal : Refusal → Bool
+is_signer_refusal SignerFailed = true
+is_signer_refusal _ = false
+
+-- an answer that only a fault of keeper or signer, or a record that the keeper holds, gives
 abbrev pub is_outside_refusal : Refusal → Bool
 is_outside_refusal (OfOutside fault) = true
+is_outside_refusal SignerFailed = true
 is_outside_refusal _ = false
 
 -- ---- counts of faults

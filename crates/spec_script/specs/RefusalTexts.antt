@@ -7,7 +7,7 @@ use Rattle.spec_exchange.specs.Telling.{Telling, bare, detailed}
 use Rattle.spec_exchange.specs.ReceivingRefusals as receiving
 use Rattle.spec_exchange.specs.SendingRefusals as sending
 use Rattle.spec_exchange.specs.Outside.{fault_telling}
-use Rattle.spec_script.specs.Refusals.{Refusal, Syntax, OtherNumber, BadEvent, NodeUnknown, NodeExists, WireUnknown, Beyond, KeysTwice, ContextNotFound, BadMessage, DeepBody, BadPolicy, ContextUsed, NotBuilt, OfSending, OfReceiving, OfOutside}
+use Rattle.spec_script.specs.Refusals.{Refusal, Syntax, OtherNumber, BadEvent, NodeUnknown, NodeExists, WireUnknown, Beyond, KeysTwice, ContextNotFound, BadMessage, DeepBody, BadPolicy, ContextUsed, BadForm, BadReport, OfSending, OfReceiving, OfOutside, SignerFailed}
 
 abbrev pub telling : Refusal → Telling
 telling Syntax = bare 1 (codes "SYNTAX")
@@ -23,7 +23,9 @@ telling (BadMessage member) = detailed 13 (codes "MESSAGE") (member_name member)
 telling DeepBody = bare 14 (codes "DEPTH")
 telling (BadPolicy mapping) = detailed 17 (codes "POLICY_FORM") (decimal mapping)
 telling ContextUsed = bare 44 (codes "CONTEXT_USED")
-telling NotBuilt = bare 47 (codes "NOT_BUILT")
+telling (BadForm member) = detailed 20 (codes "FORM") member
+telling BadReport = bare 46 (codes "REPORT_FORM")
 telling (OfSending refusal) = sending.telling refusal
-telling (OfReceiving refusal) = receiving.telling refusal
+telling (OfReceiving refusal report) = receiving.telling refusal
 telling (OfOutside fault) = fault_telling fault
+telling SignerFailed = bare 36 (codes "SIGNER")

@@ -1,5 +1,6 @@
 -- Why a line of a script is refused (this project's own).
-use Rattle.std.specs.Prelude.{ℕ, List}
+use Rattle.std.specs.Prelude.{ℕ, List, Option}
+use Rattle.spec_documents.specs.Tree.{Tree}
 use Rattle.spec_messages.specs.Message.{Member}
 use Rattle.spec_messages.specs.Limits.{Limit}
 use Rattle.spec_exchange.specs.ReceivingRefusals as receiving
@@ -28,12 +29,15 @@ pub data Refusal : Type 0 where
   -- the number of the first bad mapping, from 1, or 0 where the rest of the policy is bad
   BadPolicy : (mapping : ℕ) → Refusal
   ContextUsed : Refusal
-  -- what the event asks for isn't built yet
-  NotBuilt : Refusal
-  -- of sending, of receiving, and of the outside
+  -- the first member that keeps a document from being passed on
+  BadForm : (member : List ℕ) → Refusal
+  -- the document is of no report
+  BadReport : Refusal
+  -- of sending, of receiving with the document of its report, and of the outside
   OfSending : (refusal : sending.Refusal) → Refusal
-  OfReceiving : (refusal : receiving.Refusal) → Refusal
+  OfReceiving : (refusal : receiving.Refusal) (report : Option Tree) → Refusal
   OfOutside : (fault : Fault) → Refusal
+  SignerFailed : Refusal
 
 -- why a call comes to nothing, as a refusal of its event
 abbrev pub of_cause : {R : Type 0} → (R → Refusal) → Cause R → Refusal

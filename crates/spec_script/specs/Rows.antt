@@ -1,9 +1,12 @@
 -- Events and states of worked examples.
-use Rattle.std.specs.Prelude.{ℕ, zero, suc, List, [], ◌∷◌, ◌++◌, codes}
+use Rattle.std.specs.Prelude.{ℕ, zero, suc, List, [], ◌∷◌, ◌++◌, Option, codes}
 use Rattle.spec_documents.specs.Tree.{Tree, null, words, items, members, object, trees}
 use Rattle.spec_records.specs.Records.{Record, A128Gcm, Opened, Keyed}
 use Rattle.spec_records.specs.RecordRows.{context_with, keys_from}
-use Rattle.spec_exchange.specs.Outside.{Choice, Read, BadRecord, Kept, Lost, KeptUntold}
+use Rattle.spec_exchange.specs.Outside.{Choice, Read, BadRecord, Kept, Lost, KeptUntold, no_fault}
+use Rattle.spec_sealing.specs.Jws.{Hs256}
+use Rattle.spec_script.specs.Choices.{Signer, Signs, SignerFails, Choices}
+use Rattle.spec_reports.specs.Report.{Report, IntegrityCheckFailed}
 use Rattle.spec_script.specs.Events.{HandedContext}
 use Rattle.spec_script.specs.Steps.{State}
 
@@ -51,6 +54,10 @@ key_pair digits = of_members ((codes "request", one_key key_digits) ∷ (codes "
 abbrev pub keys_fields : List ℕ → List (List ℕ × Tree)
 keys_fields digits = (codes "node", words (codes "A")) ∷ (codes "id", words (codes "00000000000000A1")) ∷ (codes "receive", key_pair key_digits) ∷ (codes "send", key_pair digits) ∷ []
 
+-- an operation that removes the member `none`
+abbrev pub patch_row : Tree
+patch_row = of_members ((codes "op", words (codes "remove")) ∷ (codes "path", words (codes "/none")) ∷ [])
+
 -- ---- messages
 
 abbrev pub request_document : List (List ℕ × Tree) → Tree
@@ -68,7 +75,18 @@ abbrev pub nested : ℕ → Tree
 nested zero = null
 nested (suc n) = items (trees (nested n ∷ []))
 
--- ---- states: the nodes A and B
+-- ---- reports
+
+abbrev pub report_fields : List (List ℕ × Tree)
+report_fields =
+    (codes "n32fContextId", words (codes "00000000000000b1"))
+    ∷ (codes "n32fErrorType", words (codes "INTEGRITY_CHECK_FAILED"))
+    ∷ (codes "n32fMessageId", words (codes "0000000000000000")) ∷ []
+
+abbrev pub row_report : Option (List ℕ) → Report
+row_report entry = record { context = 177; message = 0; error = IntegrityCheckFailed; entry = entry }
+
+-- ---- states: the nodes A and B, and one document on the wire
 
 abbrev pub holding : List Record → State
 holding records = record {
@@ -77,17 +95,38 @@ holding records = record {
   records = records;
 }
 
+-- the nodes A and B, and these documents on the wire
+abbrev pub wired : List Tree → State
+wired ts = record {
+  sites = record { node = codes "A"; plmn = codes "00101" } ∷ record { node = codes "B"; plmn = codes "00102" } ∷ [];
+  wire = ts;
+  records = [];
+}
+
 abbrev pub opened : List Record
 opened = Opened (context_with (codes "B")) ∷ []
 
 abbrev pub keyed : List Record
 keyed = opened ++ Keyed (codes "A") 161 (keys_from 3) ∷ []
 
-abbrev pub lost : Choice
-lost = record { reading = Read; putting = Lost }
+-- a signer whose signature is the identity and what is signed
+abbrev pub row_signer : Signer
+row_signer = record { algorithm = Hs256; sign = λ identity input. identity ++ input }
 
-abbrev pub untold : Choice
-untold = record { reading = Read; putting = KeptUntold }
+abbrev pub by_keeper : Choice → Choices
+by_keeper choice = record { keeper = choice; signer = Signs row_signer }
 
-abbrev pub bad_record : Choice
-bad_record = record { reading = BadRecord 2; putting = Kept }
+abbrev pub well : Choices
+well = by_keeper no_fault
+
+abbrev pub unsigned : Choices
+unsigned = record { keeper = no_fault; signer = SignerFails }
+
+abbrev pub lost : Choices
+lost = by_keeper (record { reading = Read; putting = Lost })
+
+abbrev pub untold : Choices
+untold = by_keeper (record { reading = Read; putting = KeptUntold })
+
+abbrev pub bad_record : Choices
+bad_record = by_keeper (record { reading = BadRecord 2; putting = Kept })

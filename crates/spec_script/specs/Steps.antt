@@ -1,20 +1,27 @@
--- What the events of a script come to, in a state and under the choices of the keeper (this project's own).
-use Rattle.std.specs.Prelude.{ℕ, zero, suc, ◌+◌, ℤ, pos, negsuc, Bool, true, false, not, is_some, nat_le, List, [], ◌∷◌, ◌++◌, length, Option, Some, None, Result, Ok, Err, if◌then◌else◌, bytes_eq, slice_get, codes}
+-- What the events of a script come to, in a state and under the choices of the outside (this project's own).
+use Rattle.std.specs.Prelude.{ℕ, zero, suc, ◌+◌, ℤ, pos, negsuc, Bool, not, ◌||◌, is_some, nat_le, List, [], ◌∷◌, ◌++◌, length, Option, Some, None, Result, Ok, Err, if◌then◌else◌, bytes_eq, slice_get, codes}
 use Rattle.spec_documents.specs.Tree.{Tree}
+use Rattle.spec_documents.specs.Compact.{compact_text}
 use Rattle.spec_messages.specs.Message.{Message, Kind, of_request, of_response, kind_of, wanted}
 use Rattle.spec_messages.specs.Policy.{Policy}
 use Rattle.spec_messages.specs.PolicyDocument.{policy_of}
 use Rattle.spec_records.specs.Records.{KeySet, Context, Record, Opened, Keyed, record_limit, keys_fit, used, open_context, keys}
 use Rattle.spec_exchange.specs.Chain.{◌>>=◌, unless, or_refused}
-use Rattle.spec_messages.specs.Limits.{many_records}
+use Rattle.spec_messages.specs.Limits.{full_wire, many_records}
 use Rattle.spec_exchange.specs.ReceivingRefusals as receiving
 use Rattle.spec_exchange.specs.SendingRefusals as sending
 use Rattle.spec_exchange.specs.Outside.{Choice, Cause, Keeper, Journal, Reading, Read, ReadFails, BadRecord, Putting, Kept, Lost, KeptUntold, Outcome, with_put}
 use Rattle.spec_exchange.specs.FirstFailed.{Delivery}
-use Rattle.spec_exchange.specs.Calls.{Sealed, Asks, accepted, sends}
-use Rattle.spec_script.specs.Refusals.{Refusal, BadEvent, NodeUnknown, NodeExists, WireUnknown, Beyond, KeysTwice, ContextNotFound, BadPolicy, ContextUsed, NotBuilt, OfSending, OfReceiving, OfOutside, of_cause}
+use Rattle.spec_exchange.specs.Calls.{Sealed, Outgoing, Asks, Replies, accepted, sends}
+use Rattle.spec_script.specs.Refusals.{Refusal, BadEvent, NodeUnknown, NodeExists, WireUnknown, Beyond, KeysTwice, ContextNotFound, BadPolicy, ContextUsed, BadForm, BadReport, OfSending, OfReceiving, OfOutside, SignerFailed, of_cause}
 use Rattle.spec_script.specs.Messages.{message_in}
-use Rattle.spec_script.specs.Events.{HandedContext, Event, AddNode, AddContext, AddKeys, Send, Inject, Deliver, Restart, line_event}
+use Rattle.spec_script.specs.Events.{HandedContext, Event, AddNode, AddContext, AddKeys, Send, Pass, Inject, Alter, Deliver, Restart, Reported, line_event}
+use Rattle.spec_script.specs.Choices.{Signing, Signs, SignerFails, Choices}
+use Rattle.spec_script.specs.Altering.{altered}
+use Rattle.spec_script.specs.Reports.{report_on}
+use Rattle.spec_sealing.specs.Passing.{with_room, passed}
+use Rattle.spec_reports.specs.Report.{Report}
+use Rattle.spec_reports.specs.Document.{report_in}
 
 -- a node, and the PLMN id of its network
 pub record Site : Type 0 where
@@ -34,7 +41,11 @@ pub data Answer : Type 0 where
   OnWire : (number : ℕ) → Answer
   -- the sealed document, which has this number on the wire
   Sends : (sealed : Sealed) (number : ℕ) → Answer
+  -- what became of a document, which has this number on the wire
+  Forwards : (document : Tree) (number : ℕ) → Answer
   Delivers : (delivery : Delivery) → Answer
+  -- what a report says
+  Reports : (report : Report) → Answer
   Refuses : (refusal : Refusal) → Answer
 
 -- the answer, the record that is held more, the document that goes last on the wire, and the nodes
@@ -70,6 +81,12 @@ next_number s = length s.wire + 1
 abbrev pub injects : State → Tree → Step
 injects s t = record { answer = OnWire (next_number s); put = None; sent = Some t; sites = s.sites }
 
+abbrev pub forwards : State → Tree → Step
+forwards s t = record { answer = Forwards t (next_number s); put = None; sent = Some t; sites = s.sites }
+
+abbrev pub reports : State → Report → Step
+reports s r = record { answer = Reports r; put = None; sent = None; sites = s.sites }
+
 abbrev pub adds_node : State → (node plmn : List ℕ) → Step
 adds_node s node plmn = record { answer = Fine (codes "node"); put = None; sent = None; sites = s.sites ++ record { node = node; plmn = plmn } ∷ [] }
 
@@ -90,12 +107,13 @@ sealed_sent (Err e) = None
 abbrev pub sends_sealed : State → Outcome sending.Refusal Sealed → Step
 sends_sealed s o = record { answer = sealed_answer (next_number s) o.result; put = o.put; sent = sealed_sent o.result; sites = s.sites }
 
-abbrev pub delivery_answer : Result Delivery (Cause receiving.Refusal) → Answer
-delivery_answer (Ok d) = Delivers d
-delivery_answer (Err e) = Refuses (of_cause OfReceiving e)
+-- a refusal of the document t is told with its report
+abbrev pub delivery_answer : Tree → Result Delivery (Cause receiving.Refusal) → Answer
+delivery_answer t (Ok d) = Delivers d
+delivery_answer t (Err e) = Refuses (of_cause (λ r. OfReceiving r (report_on t r)) e)
 
-abbrev pub delivers : State → Outcome receiving.Refusal Delivery → Step
-delivers s o = record { answer = delivery_answer o.result; put = o.put; sent = None; sites = s.sites }
+abbrev pub delivers : State → Tree → Outcome receiving.Refusal Delivery → Step
+delivers s t o = record { answer = delivery_answer t o.result; put = o.put; sent = None; sites = s.sites }
 
 -- ---- checks
 
@@ -118,17 +136,31 @@ wire_at wire (negsuc n) = None
 abbrev pub known_document : State → ℤ → Result Tree Refusal
 known_document s number = wanted (wire_at s.wire number) WireUnknown
 
-abbrev pub is_response : Kind → Bool
-is_response of_request = false
-is_response of_response = true
+-- how many bytes the documents on the wire have as compact texts
+abbrev pub wire_bytes : List Tree → ℕ
+wire_bytes [] = 0
+wire_bytes (t ∷ ts) = length (compact_text t) + wire_bytes ts
 
--- the request to send. No response is sent yet, and no request answers one
-abbrev pub request_to_send : Tree → Option ℕ → Result Message Refusal
-request_to_send t answers = do
+-- the wire has as much as it may have
+abbrev pub is_full : List Tree → Bool
+is_full wire = nat_le 134217728 (wire_bytes wire) || nat_le 1000000 (length wire)
+
+abbrev pub room_on_wire : State → Result (Unit {0}) Refusal
+room_on_wire s = unless (is_full s.wire) (Beyond full_wire)
+
+-- a response answers a request, and a request none
+abbrev pub outgoing_of : Kind → Option ℕ → Result Outgoing Refusal
+outgoing_of of_request None = Ok Asks
+outgoing_of of_request (Some to) = Err (BadEvent (codes "answers"))
+outgoing_of of_response None = Err (BadEvent (codes "answers"))
+outgoing_of of_response (Some to) = Ok (Replies to)
+
+-- the message to send, and as what
+abbrev pub message_to_send : Tree → Option ℕ → Result (Outgoing × Message) Refusal
+message_to_send t answers = do
   m ← message_in t
-  _ ← unless (is_response (kind_of m)) NotBuilt
-  _ ← unless (is_some answers) (BadEvent (codes "answers"))
-  Ok m
+  o ← outgoing_of (kind_of m) answers
+  Ok (o, m)
 
 abbrev pub policy_to_hold : Tree → Result Policy Refusal
 policy_to_hold t = or_refused BadPolicy (policy_of t)
@@ -141,6 +173,13 @@ has_read (BadRecord k) = Err (OfOutside (Journal k))
 
 abbrev pub room_for_record : State → Result (Unit {0}) Refusal
 room_for_record s = unless (nat_le record_limit (length s.records)) (Beyond many_records)
+
+-- ---- intermediaries
+
+-- the document t with the entry of an intermediary more. The signer is asked last
+abbrev pub passes_on : State → Signing → (ipx : List ℕ) → (operations : Tree) → Tree → Result Step Refusal
+passes_on s (Signs g) ipx operations t = or_refused BadForm (passed g.algorithm ipx operations (g.sign ipx) t) >>= λ d. Ok (forwards s d)
+passes_on s SignerFails ipx operations t = or_refused BadForm (with_room t) >>= λ parts. Err SignerFailed
 
 -- ---- contexts and keys that are handed in
 
@@ -166,37 +205,53 @@ keys_up s f node id set = do
 -- ---- events
 
 -- the step of an event whose checks hold
-abbrev pub checked : State → Choice → Event → Result Step Refusal
+abbrev pub checked : State → Choices → Event → Result Step Refusal
 checked s f (AddNode node plmn) = do
   _ ← new_node s node
   Ok (adds_node s node plmn)
 checked s f (AddContext x) = do
   _ ← known_node s x.node
   policy ← policy_to_hold x.policy
-  opens s f (context_with x policy)
+  opens s f.keeper (context_with x policy)
 checked s f (AddKeys node id set) = do
   _ ← known_node s node
-  keys_up s f node id set
+  keys_up s f.keeper node id set
 checked s f (Send node id t answers) = do
   _ ← known_node s node
-  m ← request_to_send t answers
-  Ok (sends_sealed s (sends f s.records node id Asks m))
-checked s f (Inject t) = Ok (injects s t)
+  _ ← room_on_wire s
+  m ← message_to_send t answers
+  Ok (sends_sealed s (sends f.keeper s.records node id m.0 m.1))
+checked s f (Pass ipx number operations) = do
+  t ← known_document s number
+  _ ← room_on_wire s
+  passes_on s f.signer ipx operations t
+checked s f (Inject t) = do
+  _ ← room_on_wire s
+  Ok (injects s t)
+checked s f (Alter number ops) = do
+  t ← known_document s number
+  _ ← room_on_wire s
+  u ← altered ops t
+  Ok (forwards s u)
 checked s f (Deliver node number) = do
   _ ← known_node s node
   t ← known_document s number
-  Ok (delivers s (accepted f s.records node t))
+  Ok (delivers s t (accepted f.keeper s.records node t))
 checked s f (Restart node) = do
   _ ← known_node s node
   Ok (does s (codes "restart"))
+checked s f (Reported node t) = do
+  _ ← known_node s node
+  r ← or_refused (λ none. BadReport) (report_in t)
+  Ok (reports s r)
 
-abbrev pub step : State → Choice → Event → Step
+abbrev pub step : State → Choices → Event → Step
 step s f e = or_refuses s (checked s f e)
 
 -- the step of a line, which may be of no event
-abbrev pub step_with : State → Choice → Result Event Refusal → Step
+abbrev pub step_with : State → Choices → Result Event Refusal → Step
 step_with s f (Ok e) = step s f e
 step_with s f (Err e) = refuses s e
 
-abbrev pub line_step : State → Choice → List ℕ → Step
+abbrev pub line_step : State → Choices → List ℕ → Step
 line_step s f line = step_with s f (line_event line)

@@ -1,7 +1,7 @@
 // Texts of answers that the stored run has not.
 use block_forms::LimitName;
 use n32_values::{Bytes, Doc, NoMemory, read_doc};
-use script_lines::{Refusal, refusal_text, sealed_text};
+use script_lines::{Refusal, document_text, refusal_text};
 use std::alloc::Global;
 
 fn is_text(found: Result<Bytes, NoMemory>, wanted: &str) -> bool {
@@ -35,7 +35,7 @@ fn refusals_of_the_outside_are_told(rt: HostRuntime) {
 
 // The document that is handed back, where the answer is this.
 fn sealed(alloc: Global, document: Doc, wanted: &str) -> Option<Doc> {
-    match sealed_text(alloc, 8, document, 3) {
+    match document_text(alloc, 8, document, 3) {
         Ok((text, document)) if text.as_slice() == wanted.as_bytes() => Some(document),
         _ => None,
     }

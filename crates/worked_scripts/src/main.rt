@@ -8,6 +8,7 @@ ghost use Rattle.std.specs.Prelude.{◌≡◌, ◌≢◌, Some, IfOk};
 ghost use Rattle.replay_runs.specs.Commands.{command_of};
 ghost use Rattle.replay_runs.specs.declared.command.Command.TheVariants.{Replay};
 
+use jws_flat::Hs256;
 use n32_outside::{FailList, MemKeeper, StdSink, StdSource};
 use n32_values::{NoMemory, Text, TextList};
 use replay_runs::{Status, run};
@@ -42,7 +43,17 @@ fn answer_events(rt: &HostRuntime) -> Status
     let mut source = StdSource::new(rt.reader());
     let mut sink = StdSink::new(io::writer(rt));
     let mut keeper = MemKeeper::new(rt.alloc(), FailList::new(rt.alloc()));
-    run(rt.alloc(), &words, &mut source, &mut sink, &mut keeper)
+    let Ok(mut signer) = Hs256::new(rt.alloc(), b"n32-demo") else {
+        return Status::NoMemory;
+    };
+    run(
+        rt.alloc(),
+        &words,
+        &mut source,
+        &mut sink,
+        &mut keeper,
+        &mut signer,
+    )
 }
 
 fn main(rt: HostRuntime) -> ExitCode {

@@ -1,6 +1,7 @@
 // Runs over objects in memory whose calls fail, over records that were held before, and over a file.
+use jws_flat::Hs256;
 use n32_outside::{
-    CallList, FailItem, FailList, FileKeeper, Keeper, MemKeeper, MemSink, MemSource,
+    CallList, FailAt, FailItem, FailList, FileKeeper, Keeper, MemKeeper, MemSink, MemSource,
 };
 use n32_values::{Bytes, Text, TextList};
 use replay_runs::{Status, run};
@@ -52,9 +53,11 @@ const DELIVERED_9: &str =
 const DELIVERED_10: &str =
     "{\"delivered\":{\"headers\":[{\"header\":\"accept\",\"value\":\"application/json\"}],\"requestLine\":{\"authority\":\"udm.example\",\"method\":\"GET\",\"path\":\"/nudm-sdm/v2/imsi-001010000000001/nssai\",\"protocolVersion\":\"HTTP/2\",\"scheme\":\"https\"}},\"line\":10,\"message\":\"0000000000000000\"}\n";
 
-const REPLAY_9: &str = "{\"detail\":\"5\",\"line\":9,\"name\":\"REPLAY\",\"refused\":25}\n";
+const REPLAY_9: &str =
+    "{\"detail\":\"5\",\"line\":9,\"name\":\"REPLAY\",\"refused\":25,\"report\":{\"n32fContextId\":\"00000000000000b1\",\"n32fErrorType\":\"MESSAGE_RECONSTRUCTION_FAILED\",\"n32fMessageId\":\"0000000000000000\"}}\n";
 
-const REPLAY_10: &str = "{\"detail\":\"5\",\"line\":10,\"name\":\"REPLAY\",\"refused\":25}\n";
+const REPLAY_10: &str =
+    "{\"detail\":\"5\",\"line\":10,\"name\":\"REPLAY\",\"refused\":25,\"report\":{\"n32fContextId\":\"00000000000000b1\",\"n32fErrorType\":\"MESSAGE_RECONSTRUCTION_FAILED\",\"n32fMessageId\":\"0000000000000000\"}}\n";
 
 const RESTARTED_9: &str = "{\"line\":9,\"ok\":\"restart\"}\n";
 
@@ -96,6 +99,7 @@ struct Objects {
     words: TextList,
     source: Option<MemSource>,
     sink: MemSink,
+    signer: Option<FailAt<Hs256>>,
 }
 
 fn words_of(alloc: Global, words: &[&str]) -> TextList {
@@ -123,6 +127,14 @@ fn source_of(alloc: Global, script: &[u8], fails: &[u64]) -> Option<MemSource> {
     }
 }
 
+// A signer that fails at these calls.
+fn signer_of(alloc: Global, fails: &[u64]) -> Option<FailAt<Hs256>> {
+    match Hs256::new(alloc, b"n32-demo") {
+        Ok(signer) => Some(FailAt::new(signer, calls(alloc, fails))),
+        Err(_) => None,
+    }
+}
+
 // The words of a call, a script, and the calls of source and sink that fail.
 fn objects_of(
     alloc: Global,
@@ -135,6 +147,7 @@ fn objects_of(
         words: words_of(alloc, words),
         source: source_of(alloc, script, reads),
         sink: MemSink::new(alloc, calls(alloc, writes)),
+        signer: signer_of(alloc, &[]),
     }
 }
 
@@ -171,12 +184,19 @@ fn ends<K: Keeper>(
     wanted: Status,
     output: &str,
 ) -> bool {
-    match &mut objects.source {
-        Some(source) => {
-            let status = run(alloc, &objects.words, source, &mut objects.sink, keeper);
+    match (&mut objects.source, &mut objects.signer) {
+        (Some(source), Some(signer)) => {
+            let status = run(
+                alloc,
+                &objects.words,
+                source,
+                &mut objects.sink,
+                keeper,
+                signer,
+            );
             status == wanted && objects.sink.written() == output.as_bytes()
         }
-        None => false,
+        _ => false,
     }
 }
 
@@ -192,6 +212,35 @@ fn replays<K: Keeper>(
     let output = joined(alloc, answers);
     let objects = objects_of(alloc, &["replay"], script.as_bytes(), &[], &[]);
     ends(alloc, objects, keeper, wanted, output.as_str())
+}
+
+const PASS: &str = "{\"do\":\"pass\",\"ipx\":\"ipx-a\",\"wire\":1}\n";
+
+const INJECT: &str = "{\"do\":\"inject\",\"document\":[]}\n";
+
+const SIGNER_8: &str = "{\"line\":8,\"name\":\"SIGNER\",\"refused\":36}\n";
+
+const WIRE_9: &str = "{\"line\":9,\"wire\":2}\n";
+
+// Whether a script is answered so, where the first call of the signer fails.
+fn replays_unsigned(alloc: Global, events: &[&str], answers: &[&str]) -> bool {
+    let script = joined(alloc, events);
+    let output = joined(alloc, answers);
+    let mut objects = objects_of(alloc, &["replay"], script.as_bytes(), &[], &[]);
+    objects.signer = signer_of(alloc, &[0]);
+    let mut keeper = keeper_of(alloc, &[], &[]);
+    ends(alloc, objects, &mut keeper, Status::Done, output.as_str())
+}
+
+#[test]
+fn a_fault_of_the_signer_leaves_the_wire(rt: HostRuntime) {
+    assert!(rt;
+        replays_unsigned(
+            rt.alloc(),
+            &[OPENING, KEYS_OF_A, KEYS_OF_B, SEND, PASS, INJECT],
+            &[OPENED, SENT, SIGNER_8, WIRE_9],
+        )
+    );
 }
 
 #[test]

@@ -1,13 +1,14 @@
 // Worlds that were made by hand.
-ghost use Rattle.std.specs.Prelude.{◌≡◌, IfSome};
-ghost use Rattle.std.specs.List.{AllByRecursion};
+ghost use Rattle.std.specs.Prelude.{◌≡◌, [], ◌∷◌, length, IfSome};
+ghost use Rattle.spec_documents.specs.Compact.{compact_text};
 ghost use Rattle.context_store.specs.Stores.{IsConsistent};
-ghost use Rattle.replay_world.specs.Worlds.{IsReady, AreDistinct, IsShallow, sites_view};
+ghost use Rattle.replay_world.specs.Worlds.{IsReady, IsSound, AreDistinct, IsShallow, sites_view};
 
 use crate::runs::keeper_of;
 use context_store::{Store, new_store, open_store};
+use jws_flat::Hs256;
 use n32_outside::Keeper;
-use n32_values::{Doc, DocList, Text, depth, read_doc, read_plmn};
+use n32_values::{Doc, DocList, Text, depth, read_doc, read_plmn, text_length};
 use replay_world::{Site, SiteList, World, new_world, step};
 use std::alloc::Global;
 
@@ -48,7 +49,10 @@ fn answers<K: Keeper>(
     requires { IsReady (K.held keeper.old) world.old }
     ensures { IsReady (K.held keeper.new) world.new }
 {
-    match step(alloc, world, number, line.as_bytes(), keeper) {
+    let Ok(mut signer) = Hs256::new(alloc, b"n32-demo") else {
+        return false;
+    };
+    match step(alloc, world, number, line.as_bytes(), keeper, &mut signer) {
         Ok(text) => text.as_slice() == wanted.as_bytes(),
         Err(_) => false,
     }
@@ -92,26 +96,49 @@ fn document(alloc: Global) -> Option<Doc>
 }
 
 // The document alone.
-fn wire(alloc: Global) -> Option<DocList>
-    ensures { IfSome result (λ w. AllByRecursion IsShallow w) }
+fn wire(alloc: Global, document: Doc) -> Option<DocList>
+    ensures { IfSome result (λ w. w ≡ document ∷ []) }
 {
     let mut wire = DocList::new(alloc);
-    let Ok(()) = wire.push(document(alloc)?) else {
-        return None;
-    };
-    Some(wire)
+    match wire.push(document) {
+        Ok(()) => Some(wire),
+        Err(_) => None,
+    }
+}
+
+// How many bytes the document has, where this has a number.
+fn bytes_of(document: &Doc) -> Option<u64>
+    ensures { IfSome result (λ n. n ≡ length (compact_text document.now)) }
+{
+    let bytes = text_length(document.node());
+    if bytes == u64::MAX { None } else { Some(bytes) }
+}
+
+// A world of the nodes A and B with the document on its wire.
+fn world(alloc: Global, store: Store) -> Option<World>
+    ensures sound { IfSome result (λ w. IsSound w) }
+    ensures store { IfSome result (λ w. w.store ≡ store) }
+{
+    let document = document(alloc)?;
+    let wire_bytes = bytes_of(&document)?;
+    Some(World {
+        sites: sites(alloc)?,
+        wire: wire(alloc, document)?,
+        wire_bytes,
+        store,
+    })
 }
 
 // Whether a delivery to B is answered so.
 fn delivers<K: Keeper>(alloc: Global, keeper: &mut K, store: Store, wanted: &str) -> bool
     requires { IsConsistent (K.held keeper.old) store }
 {
-    match (sites(alloc), wire(alloc)) {
-        (Some(sites), Some(wire)) => {
-            let mut world = World { sites, wire, store };
+    match world(alloc, store) {
+        Some(world) => {
+            let mut world = world;
             answers(alloc, &mut world, keeper, 8, DELIVER, wanted)
         }
-        _ => false,
+        None => false,
     }
 }
 

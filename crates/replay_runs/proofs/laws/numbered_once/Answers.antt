@@ -2,9 +2,9 @@ use Rattle.spec_script.specs.Output.{begin}
 use Rattle.replay_runs.proofs.laws.numbered_once.Goals as goal
 
 pub returns-clause-once : goal.returns-clause-once
-returns-clause-once c records lines answers last answered node id kind seq =
-    c.numbered_once.ensures.once (begin records) 1 lines answers last answered node id kind seq
+returns-clause-once c m records lines answers last answered node id kind seq =
+    c.numbered_once.ensures.once m (begin records) 1 lines answers last answered node id kind seq
 
 pub returns-clause-held : goal.returns-clause-held
-returns-clause-held c records lines answers last answered node id kind seq e =
-    c.numbered_once.ensures.held (begin records) 1 lines answers last answered node id kind seq e
+returns-clause-held c m records lines answers last answered node id kind seq e =
+    c.numbered_once.ensures.held m (begin records) 1 lines answers last answered node id kind seq e

@@ -1,18 +1,32 @@
-use Rattle.std.proofs.Common.{refl}
-use Rattle.n32_values.specs.View.{tree_of}
-use Rattle.spec_script.specs.Steps as spec
-use Rattle.spec_script.specs.Events.{AddNode, Inject, Restart}
-use Rattle.replay_world.proofs.Parts.{comes_idly}
+use Rattle.replay_world.proofs.Signing.{signed_any, signed_on}
 use Rattle.replay_world.proofs.answering.answer_event.Goals as goal
 
-pub returns-in-Node-clause-comes : goal.returns-in-Node-clause-comes
-returns-in-Node-clause-comes g c =
-    rw c.in-Node.is (comes_idly (λ s f. spec.step s f (AddNode c.in-Node.node c.in-Node.plmn)) (g.K.Keeper.held c.args.keeper.now) (g.K.Keeper.held c.args.keeper.now) c.args.world.now c.add_node.new.world c.args.number c.add_node.result refl c.requires.ready.consistent c.add_node.ensures.comes)
+pub returns-in-Node-clause-handles : goal.returns-in-Node-clause-handles
+returns-in-Node-clause-handles g c = rw c.in-Node.is (signed_any _ _ _ λ x. c.add_node.ensures (g.K.Keeper.held c.args.keeper.now) (g.K.Keeper.faults c.args.keeper.now) c.requires.ready.consistent)
 
-pub returns-in-Inject-clause-comes : goal.returns-in-Inject-clause-comes
-returns-in-Inject-clause-comes g c =
-    rw c.in-Inject.is (comes_idly (λ s f. spec.step s f (Inject (tree_of c.in-Inject.document))) (g.K.Keeper.held c.args.keeper.now) (g.K.Keeper.held c.args.keeper.now) c.args.world.now c.inject.new.world c.args.number c.inject.result refl c.requires.ready.consistent c.inject.ensures.comes)
+pub returns-in-Inject-clause-handles : goal.returns-in-Inject-clause-handles
+returns-in-Inject-clause-handles g c = rw c.in-Inject.is (signed_any _ _ _ λ x. c.inject.ensures (g.K.Keeper.held c.args.keeper.now) (g.K.Keeper.faults c.args.keeper.now) c.requires.ready.consistent)
 
-pub returns-in-Restart-clause-comes : goal.returns-in-Restart-clause-comes
-returns-in-Restart-clause-comes g c =
-    rw c.in-Restart.is (comes_idly (λ s f. spec.step s f (Restart c.in-Restart.node)) (g.K.Keeper.held c.args.keeper.now) (g.K.Keeper.held c.args.keeper.now) c.args.world.now c.restart.new.world c.args.number c.restart.result refl c.requires.ready.consistent c.restart.ensures.comes)
+pub returns-in-Alter-clause-handles : goal.returns-in-Alter-clause-handles
+returns-in-Alter-clause-handles g c = rw c.in-Alter.is (signed_any _ _ _ λ x. c.alter.ensures (g.K.Keeper.held c.args.keeper.now) (g.K.Keeper.faults c.args.keeper.now) c.requires.ready.consistent)
+
+pub returns-in-Restart-clause-handles : goal.returns-in-Restart-clause-handles
+returns-in-Restart-clause-handles g c = rw c.in-Restart.is (signed_any _ _ _ λ x. c.restart.ensures (g.K.Keeper.held c.args.keeper.now) (g.K.Keeper.faults c.args.keeper.now) c.requires.ready.consistent)
+
+pub returns-in-Reported-clause-handles : goal.returns-in-Reported-clause-handles
+returns-in-Reported-clause-handles g c = rw c.in-Reported.is (signed_any _ _ _ λ x. c.reported.ensures (g.K.Keeper.held c.args.keeper.now) (g.K.Keeper.faults c.args.keeper.now) c.requires.ready.consistent)
+
+pub returns-in-Context-clause-handles : goal.returns-in-Context-clause-handles
+returns-in-Context-clause-handles g c = rw c.in-Context.is (signed_any _ _ _ λ x. c.hand_in_context.ensures)
+
+pub returns-in-Keys-clause-handles : goal.returns-in-Keys-clause-handles
+returns-in-Keys-clause-handles g c = rw c.in-Keys.is (signed_any _ _ _ λ x. c.hand_in_keys.ensures)
+
+pub returns-in-Send-clause-handles : goal.returns-in-Send-clause-handles
+returns-in-Send-clause-handles g c = rw c.in-Send.is (signed_any _ _ _ λ x. c.send.ensures)
+
+pub returns-in-Deliver-clause-handles : goal.returns-in-Deliver-clause-handles
+returns-in-Deliver-clause-handles g c = rw c.in-Deliver.is (signed_any _ _ _ λ x. c.deliver.ensures)
+
+pub returns-in-Pass-clause-handles : goal.returns-in-Pass-clause-handles
+returns-in-Pass-clause-handles g c = rw c.in-Pass.is (signed_on _ _ _ _ (λ x h. h (g.K.Keeper.held c.args.keeper.now) (g.K.Keeper.faults c.args.keeper.now) c.requires.ready.consistent) c.pass.ensures.handles)

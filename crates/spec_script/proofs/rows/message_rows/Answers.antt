@@ -6,6 +6,18 @@ pub returns-clause-response : goal.returns-clause-response
 unfolding chain.◌>>=◌
 returns-clause-response c = refl
 
+pub returns-clause-alone : goal.returns-clause-alone
+unfolding chain.◌>>=◌
+returns-clause-alone c = refl
+
+pub returns-clause-reply : goal.returns-clause-reply
+unfolding chain.◌>>=◌
+returns-clause-reply c = refl
+
+pub returns-clause-status : goal.returns-clause-status
+unfolding chain.◌>>=◌
+returns-clause-status c = refl
+
 pub returns-clause-message : goal.returns-clause-message
 unfolding chain.◌>>=◌
 returns-clause-message c = refl
@@ -21,7 +33,3 @@ returns-clause-answers c = refl
 pub returns-clause-context : goal.returns-clause-context
 unfolding chain.◌>>=◌
 returns-clause-context c = refl
-
-pub returns-clause-status : goal.returns-clause-status
-unfolding chain.◌>>=◌
-returns-clause-status c = refl

@@ -3,4 +3,4 @@ use Rattle.spec_script.proofs.FaultLemmas.{line_determined}
 use Rattle.spec_script.proofs.runs.answers_determined.Goals as goal
 
 pub returns : goal.returns
-returns c s f line e = line_determined s f (line_event line) e
+returns c m s f by line e = line_determined m s f by (line_event line) e

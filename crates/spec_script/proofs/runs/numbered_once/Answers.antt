@@ -4,7 +4,7 @@ use Rattle.spec_script.proofs.OutputLemmas.{run-numbered}
 use Rattle.spec_script.proofs.runs.numbered_once.Goals as goal
 
 pub returns-clause-once : goal.returns-clause-once
-returns-clause-once c s n lines answers last h node id kind seq = omega (arith, run-numbered s n lines answers last h node id kind seq)
+returns-clause-once c m s n lines answers last h node id kind seq = omega (arith, run-numbered m s n lines answers last h node id kind seq)
 
 pub returns-clause-held : goal.returns-clause-held
-returns-clause-held c s n lines answers last h node id kind seq e = alone _ _ (run-numbered s n lines answers last h node id kind seq) e
+returns-clause-held c m s n lines answers last h node id kind seq e = alone _ _ (run-numbered m s n lines answers last h node id kind seq) e

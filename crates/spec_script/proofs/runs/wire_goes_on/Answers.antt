@@ -11,3 +11,8 @@ pub returns-clause-injected : goal.returns-clause-injected
 returns-clause-injected c s f line k e =
     let w = (line_wires s f line).injected k e in
     (w.0, on_wire s (line_step s f line) w.0 w.1, found_on_wire s (line_step s f line) w.0 k w.1 w.2)
+
+pub returns-clause-forwarded : goal.returns-clause-forwarded
+returns-clause-forwarded c s f line t k e =
+    let w = (line_wires s f line).forwarded t k e in
+    (on_wire s (line_step s f line) t w.0, found_on_wire s (line_step s f line) t k w.0 w.1)
