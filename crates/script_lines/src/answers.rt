@@ -16,7 +16,9 @@ use crate::refusal_detail::detail_text;
 use doc_forms::{put, put_text};
 use error_reports::Report;
 use http_message::Message;
-use n32_values::{Bytes, Doc, Hex64, NoMemory, Node, NodeMap, Text, Whole, copy_doc, doc_text, hex64_text};
+use n32_values::{
+    Bytes, Doc, Hex64, NoMemory, Node, NodeMap, Text, Whole, copy_doc, doc_text, hex64_text,
+};
 use std::alloc::Global;
 
 fn put_number(alloc: Global, map: &mut NodeMap, name: &str, number: u64) -> Result<(), NoMemory>

@@ -39,8 +39,8 @@ returns-in-Ok-put_made c =
     let room : spec.is_full c.args.world.now.wire ≡ false = cc in
     alone_done (λ s f. spec.step s (unsigned f) (Alter c.args.wire.now (map op_view c.args.operations.now))) c.args.world.now c.put_made.new.world c.args.number c.in-Ok-put_made.text
     (idles_made (λ s f. spec.step s (unsigned f) (Alter c.args.wire.now (map op_view c.args.operations.now))) c.args.world.now c.put_made.new.world c.args.number c.in-Ok-put_made.text c.in-Ok.altered
-        (λ records f. altered_goes_on (state_of c.args.world.now records) (unsigned f) c.args.wire.now (map op_view c.args.operations.now) c.in-Some.document.now c.in-Ok.altered found room c.in-Ok.ensures.gives)
-        c.in-Ok-put_made.ensures.text c.in-Ok-put_made.ensures.goes_on)
+    (λ records f. altered_goes_on (state_of c.args.world.now records) (unsigned f) c.args.wire.now (map op_view c.args.operations.now) c.in-Some.document.now c.in-Ok.altered found room c.in-Ok.ensures.gives)
+    c.in-Ok-put_made.ensures.text c.in-Ok-put_made.ensures.goes_on)
     (sound_more c.args.world.now c.put_made.new.world c.in-Ok.altered c.in-Ok-put_made.ensures.goes_on c.in-Ok.ensures.shallow c.requires)
 
 pub returns-in-Err : goal.returns-in-Err
