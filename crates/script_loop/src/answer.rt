@@ -10,7 +10,10 @@ use crate::{Ending, Machine};
 use n32_outside::{OutFault, Sink};
 use std::alloc::Global;
 
-/// Writes all the bytes, however few the sink takes at a time. After an `Err` some of them were written, and not all.
+/// Writes all the bytes, however few the sink takes at a time.
+///
+/// # Errors
+/// What the sink answered: some of the bytes were written, and not all.
 pub fn write_all<O: Sink>(sink: &mut O, bytes: &[u8]) -> Result<(), OutFault>
     ensures ok { OnOk result (Appends (O.written sink.old) (O.written sink.new) bytes.now) }
     ensures err { OnErr result (WritesSome bytes.now (O.written sink.old) (O.written sink.new)) }
