@@ -8,6 +8,8 @@ use Rattle.block_forms.specs.declared.fault.BlockWhy.TheVariants as why
 use Rattle.spec_exchange.specs.Chain.{or_refused}
 use Rattle.spec_exchange.specs.Rebuilding.{read_block, no_block}
 use Rattle.spec_exchange.specs.ReceivingRefusals.{Reconstruction}
+use Rattle.spec_exchange.specs.AcceptRefusals.{Receiving}
+use Rattle.spec_exchange.specs.Accepting.{stage}
 use Rattle.receiving_sepp.specs.Views.{fault_view}
 
 fault_is : (w : BlockWhy) (fault : Option BlockFault) → Tells w fault → fault ≡ Some (fault_view w)
@@ -21,5 +23,5 @@ fault_is (why.Missing n) fault h = h
 fault_is why.Depth fault h = h
 
 -- where a fault is told, the block isn't read by it
-pub fault_told : (w : BlockWhy) (j : Tree) (n : ℕ) → Tells w (block_fault j n) → or_refused (λ why. Reconstruction (no_block why)) (read_block j n) ≡ Err (Reconstruction (no_block (fault_view w)))
+pub fault_told : (w : BlockWhy) (j : Tree) (n : ℕ) → Tells w (block_fault j n) → stage (or_refused (λ why. Reconstruction (no_block why)) (read_block j n)) ≡ Err (Receiving (Reconstruction (no_block (fault_view w))))
 fault_told w j n h = rw (fault_is w (block_fault j n) h) refl

@@ -1,5 +1,8 @@
-mod Chain
+mod BlockTold
 mod Calls
 mod Counts
-mod BlockTold
+mod Failures
+mod Filling
+mod Leaving
 mod Stages
+mod Verified

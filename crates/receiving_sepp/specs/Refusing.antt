@@ -2,7 +2,7 @@
 use Rattle.std.specs.Prelude.{Option, Some, None}
 use Rattle.context_store.specs.declared.faults.OpenFault.{OpenFault}
 use Rattle.context_store.specs.declared.faults.OpenFault.TheVariants as opening
-use Rattle.spec_exchange.specs.ReceivingRefusals as spec
+use Rattle.spec_exchange.specs.AcceptRefusals as spec
 use Rattle.spec_exchange.specs.Outside.{Cause, Own, Outside}
 use Rattle.spec_exchange.specs.Outside as outside
 use Rattle.receiving_sepp.specs.declared.faults.CheckFault.{CheckFault}

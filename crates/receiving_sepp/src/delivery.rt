@@ -1,9 +1,8 @@
 // The record of a delivery, which is put before anything is delivered.
-ghost use Rattle.std.specs.Prelude.{◌≡◌, ◌<◌, ◌≤◌, true, length, IsTrue, IsErrOf};
+ghost use Rattle.std.specs.Prelude.{◌≡◌, ◌≤◌, true, IsTrue, IsErrOf};
 ghost use Rattle.spec_documents.specs.Text.{is_node_name};
 ghost use Rattle.n32_outside.specs.Causes.{Rose};
 ghost use Rattle.context_store.specs.Stores.{IsConsistent};
-ghost use Rattle.spec_records.specs.Records.{record_limit};
 ghost use Rattle.receiving_sepp.specs.Outcome.{Delivers, delivery_view};
 
 use crate::checks::Checked;
@@ -42,7 +41,6 @@ pub(crate) fn deliver<K: Keeper>(
     ensures consistent { IsConsistent (K.held keeper.new) store.new }
     ensures later { K.faults keeper.old ≤ K.faults keeper.new }
     ensures failed { IsErrOf result AcceptFault.Keeper → Rose (K.faults keeper.old) (K.faults keeper.new) }
-    ensures room { IsErrOf result AcceptFault.Keeper → length store.old.records < record_limit }
 {
     let item = Record::Delivered {
         node: node.copy(alloc)?,

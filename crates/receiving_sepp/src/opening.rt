@@ -7,17 +7,18 @@ ghost use Rattle.spec_records.specs.Records as records;
 ghost use Rattle.http_message.specs.Reading.{kind_view};
 ghost use Rattle.jwe_flat.specs.View.{content_key_view, jwe_view};
 ghost use Rattle.context_records.specs.View.{context_view, key_set_view, suite_view};
+ghost use Rattle.spec_exchange.specs.Accepting.{stage};
 ghost use Rattle.spec_exchange.specs.FirstFailed as spec;
 ghost use Rattle.spec_exchange.specs.ReceivingRefusals as refusals;
 ghost use Rattle.receiving_sepp.specs.Refusing.{told};
-ghost use Rattle.receiving_sepp.specs.Groups.{unsealed};
+ghost use Rattle.receiving_sepp.specs.Groups.{keyed, unsealed};
 ghost use Rattle.receiving_sepp.specs.Views.{keyed_view, unsealed_view};
 
 use crate::faults::CheckFault;
+use crate::mapping::{MappedBy, first_asked};
 use crate::refused::Refused;
 use context_records::{Context, KeySet, receive_key};
 use context_store::Store;
-use http_message::Kind;
 use jwe_flat::{ContentKey, FlatJwe, JweOpen, open_jwe};
 use n32_values::{Bytes, Hex64, Text};
 use prins_document::WireDoc;
@@ -31,15 +32,16 @@ pub(crate) struct KeyedContext<'a> {
     pub(crate) keys: &'a KeySet,
 }
 
-// What a JWE opens to, with the context under which it was sealed.
+// What a JWE opens to, with the context under which it was sealed, and what its message was asked for by.
 #[derive(Drop)]
 pub(crate) struct Unsealed<'a> {
     pub(crate) context: &'a Context,
     pub(crate) plain: Bytes,
+    pub(crate) by: MappedBy,
 }
 
 fn context_of<'a>(store: &'a Store, node: &Text, id: Hex64) -> Result<&'a Context, CheckFault>
-    ensures context { Gives told (λ x. context_view x.now) result (wanted (records.open_context node.now id.value store.now.records) refusals.NoContext) }
+    ensures context { Gives told (λ x. context_view x.now) result (stage (wanted (records.open_context node.now id.value store.now.records) refusals.NoContext)) }
     ensures named { IfOk result (λ _. IsTrue (is_node_name node.now)) }
 {
     match store.context(node, id) {
@@ -49,7 +51,7 @@ fn context_of<'a>(store: &'a Store, node: &Text, id: Hex64) -> Result<&'a Contex
 }
 
 fn keys_of<'a>(store: &'a Store, node: &Text, id: Hex64) -> Result<&'a KeySet, CheckFault>
-    ensures { Gives told (λ k. key_set_view k.now) result (wanted (records.keys node.now id.value store.now.records) refusals.NoReceiveKeys) }
+    ensures { Gives told (λ k. key_set_view k.now) result (stage (wanted (records.keys node.now id.value store.now.records) refusals.NoReceiveKeys)) }
 {
     match store.keys(node, id) {
         Some(keys) => Ok(keys),
@@ -64,7 +66,7 @@ fn keyed_context<'a>(
     node: &Text,
     id: Hex64,
 ) -> Result<KeyedContext<'a>, CheckFault>
-    ensures context { Gives told keyed_view result (spec.keyed_context store.now.records node.now id.value) }
+    ensures context { Gives told keyed_view result (keyed store.now.records node.now id.value) }
     ensures named { IfOk result (λ _. IsTrue (is_node_name node.now)) }
     ensures fit { IfOk result (λ k. IsTrue (records.keys_fit (suite_view k.context.now.suite) (key_set_view k.keys.now))) }
 {
@@ -77,7 +79,7 @@ fn keyed_context<'a>(
 // The plaintext of a JWE whose header is right and whose tag recomputes.
 #[tactic(auto, unfolding(spec_documents::specs::Chain::chains))]
 fn open(alloc: Global, jwe: &FlatJwe, key: &ContentKey) -> Result<Bytes, CheckFault>
-    ensures { Gives told (λ b. b) result (spec.opens (content_key_view key.now) (jwe_view jwe.now)) }
+    ensures { Gives told (λ b. b) result (stage (spec.opens (content_key_view key.now) (jwe_view jwe.now))) }
 {
     match open_jwe(alloc, jwe, key) {
         Ok(plain) => Ok(plain),
@@ -87,23 +89,8 @@ fn open(alloc: Global, jwe: &FlatJwe, key: &ContentKey) -> Result<Bytes, CheckFa
     }
 }
 
-// Refuses a message that was delivered before.
-fn check_first(
-    store: &Store,
-    node: &Text,
-    id: Hex64,
-    kind: Kind,
-    message: Hex64,
-) -> Result<(), CheckFault>
-    ensures { Gives told (λ u. u) result (spec.is_first store.now.records node.now id.value (kind_view kind) message.value) }
-{
-    match store.delivered(node, id, kind, message) {
-        Some(number) => Err(CheckFault::Refused(Refused::Replay(number))),
-        None => Ok(()),
-    }
-}
-
-/// The plaintext of a document under its context at the node, where its message was not delivered before.
+/// The plaintext of a document under its context at the node, where its message was not delivered before and,
+/// if it is a response, was asked for.
 #[tactic(auto, unfolding(spec_documents::specs::Chain::chains))]
 pub(crate) fn unseal<'a>(
     alloc: Global,
@@ -119,9 +106,10 @@ pub(crate) fn unseal<'a>(
     let keyed = keyed_context(store, node, id)?;
     let key = receive_key(keyed.context.suite, keyed.keys, kind);
     let plain = open(alloc, &document.jwe, key)?;
-    check_first(store, node, id, kind, document.message)?;
+    let by = first_asked(store, node, id, kind, document.message)?;
     Ok(Unsealed {
         context: keyed.context,
         plain,
+        by,
     })
 }

@@ -5,6 +5,7 @@ use Rattle.context_store.proofs.Calls.{no_room}
 use Rattle.spec_exchange.specs.Calls.{delivered_record}
 use Rattle.receiving_sepp.specs.Outcome.{Answers, delivery_view}
 use Rattle.spec_exchange.specs.ReceivingRefusals.{NoRoom}
+use Rattle.spec_exchange.specs.AcceptRefusals.{Receiving}
 use Rattle.receiving_sepp.specs.declared.faults.AcceptFault.TheVariants.{Refused}
 use Rattle.receiving_sepp.specs.declared.refused.Refused.TheVariants.{Limit}
 use Rattle.receiving_sepp.proofs.Calls.{recorded_delivers, untold_delivers}
@@ -17,7 +18,7 @@ returns-in-Ok-clause-delivers g c =
 
 pub returns-in-Err-Limit-clause-delivers : goal.returns-in-Err-Limit-clause-delivers
 returns-in-Err-Limit-clause-delivers g c =
-    no_room NoRoom delivered_record (Answers (Err (Refused Limit))) _ _ _ _ (delivery_view c.args.node.now c.args.checked) refl (c.in-Err-Limit.ensures.limit (ap (λ e. Err e) c.in-Err-Limit.field-0-is))
+    no_room (Receiving NoRoom) delivered_record (Answers (Err (Refused Limit))) _ _ _ _ (delivery_view c.args.node.now c.args.checked) refl (c.in-Err-Limit.ensures.limit (ap (λ e. Err e) c.in-Err-Limit.field-0-is))
     (c.in-Err-Limit.ensures.as_it_was (inl (ap (λ e. Err e) c.in-Err-Limit.field-0-is))).1 (c.in-Err-Limit.ensures.as_it_was (inl (ap (λ e. Err e) c.in-Err-Limit.field-0-is))).0 c.requires.fresh
 
 pub returns-in-Err-Keeper-clause-delivers : goal.returns-in-Err-Keeper-clause-delivers

@@ -1,5 +1,5 @@
 use Rattle.receiving_sepp.proofs.BlockTold.{fault_told}
-use Rattle.receiving_sepp.proofs.rebuilding.holed_message.Goals as goal
+use Rattle.receiving_sepp.proofs.rebuilding.holed_block.Goals as goal
 
 pub returns-in-Err-Refused-clause-message : goal.returns-in-Err-Refused-clause-message
 returns-in-Err-Refused-clause-message c =
