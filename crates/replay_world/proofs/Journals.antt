@@ -4,11 +4,13 @@ use Rattle.spec_documents.specs.Tree.{Tree}
 use Rattle.spec_messages.specs.Message.{Message, Member, Kind, of_request, of_response, kind_of, message_of, body_depth, wanted}
 use Rattle.spec_records.specs.Records.{KeySet, Context, Record}
 use Rattle.spec_exchange.specs.Chain.{◌>>=◌, unless, or_refused}
-use Rattle.spec_exchange.specs.ReceivingRefusals as receiving
+use Rattle.spec_exchange.specs.AcceptRefusals as receiving
+use Rattle.spec_exchange.specs.Accepting.{first_failed}
+use Rattle.spec_exchange.specs.Screens.{Passes}
 use Rattle.spec_exchange.specs.SendingRefusals as sending
 use Rattle.spec_exchange.specs.Outside.{Journal, Cause, Own, Outside, Reading, Read, ReadFails, BadRecord, Putting, Kept, Lost, KeptUntold, Outcome, behind_reading, or_refusal}
 use Rattle.spec_exchange.specs.Outside as outside
-use Rattle.spec_exchange.specs.FirstFailed.{Delivery, first_failed}
+use Rattle.spec_exchange.specs.FirstFailed.{Delivery}
 use Rattle.spec_exchange.specs.Calls.{Sealed, delivered_record, sent_record, protected}
 use Rattle.spec_script.specs.Refusals.{Refusal, DeepBody, OfOutside, SignerFailed}
 use Rattle.spec_script.specs.Messages.{shallow_message}
@@ -174,17 +176,17 @@ passed_tells : (s : State) (f : Choices) (signing : Signing) → f.signer ≡ si
 passed_tells s f (Signs g) is ipx operations t = step_bind s f _ _ (mute_or_refused _ _ λ member. refl) λ d. done_tells f _ λ e is. cc
 passed_tells s f SignerFails is ipx operations t = step_bind s f _ _ (mute_or_refused _ _ λ member. refl) λ parts. record { of = λ k e. cc; signer = λ e. is }
 
-event_tells : (s : State) (f : Choices) (e : Event) → Tells f (step s f e)
-event_tells s f (AddNode node plmn) = step_bind s f _ _ (mute_unless _ _ refl) λ a. done_tells f _ λ e is. cc
-event_tells s f (AddContext x) = step_bind s f _ _ (mute_wanted _ _ refl) λ plmn. step_bind s f _ _ (mute_or_refused _ _ λ k. refl) λ policy. opens_tells s f _
-event_tells s f (AddKeys node id set) = step_bind s f _ _ (mute_wanted _ _ refl) λ plmn. keys_tells s f node id set
-event_tells s f (Send node id t answers) = step_bind s f _ _ (mute_wanted _ _ refl) λ plmn. step_bind s f _ _ (mute_unless _ _ refl) λ room. step_bind s f _ _ (sent_mute t answers) λ m. sealed_tells s f (protected s.records node id m.0 m.1)
-event_tells s f (Pass ipx number operations) = step_bind s f _ _ (mute_wanted _ _ refl) λ t. step_bind s f _ _ (mute_unless _ _ refl) λ room. passed_tells s f f.signer refl ipx operations t
-event_tells s f (Inject t) = step_bind s f _ _ (mute_unless _ _ refl) λ room. done_tells f _ λ e is. cc
-event_tells s f (Alter number ops) = step_bind s f _ _ (mute_wanted _ _ refl) λ t. step_bind s f _ _ (mute_unless _ _ refl) λ room. step_bind s f _ _ (altered_mute ops t) λ u. done_tells f _ λ e is. cc
-event_tells s f (Deliver node number) = step_bind s f _ _ (mute_wanted _ _ refl) λ plmn. step_bind s f _ _ (mute_wanted _ _ refl) λ t. delivery_tells s f t (first_failed s.records node t)
-event_tells s f (Restart node) = step_bind s f _ _ (mute_wanted _ _ refl) λ plmn. done_tells f _ λ e is. cc
-event_tells s f (Reported node t) = step_bind s f _ _ (mute_wanted _ _ refl) λ plmn. step_bind s f _ _ (mute_or_refused _ _ λ none. refl) λ r. done_tells f _ λ e is. cc
+event_tells : (passes : Passes) (s : State) (f : Choices) (e : Event) → Tells f (step passes s f e)
+event_tells passes s f (AddNode node plmn) = step_bind s f _ _ (mute_unless _ _ refl) λ a. done_tells f _ λ e is. cc
+event_tells passes s f (AddContext x) = step_bind s f _ _ (mute_wanted _ _ refl) λ plmn. step_bind s f _ _ (mute_or_refused _ _ λ k. refl) λ policy. opens_tells s f _
+event_tells passes s f (AddKeys node id set) = step_bind s f _ _ (mute_wanted _ _ refl) λ plmn. keys_tells s f node id set
+event_tells passes s f (Send node id t answers) = step_bind s f _ _ (mute_wanted _ _ refl) λ plmn. step_bind s f _ _ (mute_unless _ _ refl) λ room. step_bind s f _ _ (sent_mute t answers) λ m. sealed_tells s f (protected s.records node id m.0 m.1)
+event_tells passes s f (Pass ipx number operations) = step_bind s f _ _ (mute_wanted _ _ refl) λ t. step_bind s f _ _ (mute_unless _ _ refl) λ room. passed_tells s f f.signer refl ipx operations t
+event_tells passes s f (Inject t) = step_bind s f _ _ (mute_unless _ _ refl) λ room. done_tells f _ λ e is. cc
+event_tells passes s f (Alter number ops) = step_bind s f _ _ (mute_wanted _ _ refl) λ t. step_bind s f _ _ (mute_unless _ _ refl) λ room. step_bind s f _ _ (altered_mute ops t) λ u. done_tells f _ λ e is. cc
+event_tells passes s f (Deliver node number) = step_bind s f _ _ (mute_wanted _ _ refl) λ plmn. step_bind s f _ _ (mute_wanted _ _ refl) λ t. delivery_tells s f t (first_failed passes f.verifier s.records node t)
+event_tells passes s f (Restart node) = step_bind s f _ _ (mute_wanted _ _ refl) λ plmn. done_tells f _ λ e is. cc
+event_tells passes s f (Reported node t) = step_bind s f _ _ (mute_wanted _ _ refl) λ plmn. step_bind s f _ _ (mute_or_refused _ _ λ none. refl) λ r. done_tells f _ λ e is. cc
 
 -- ---- lines
 
@@ -200,14 +202,14 @@ value_mute : (o : Option Data) → Mute (place.◌>>=◌ (value_tree o) (λ t. o
 value_mute None = mute_err _ refl
 value_mute (Some v) = tree_mute (tree_from v)
 
-with_tells : (s : State) (f : Choices) (r : Result Event Refusal) → Mute r → Tells f (step_with s f r)
-with_tells s f (Ok e) mute = event_tells s f e
-with_tells s f (Err e) mute = refusal_tells s f e (mute.is e refl)
+with_tells : (passes : Passes) (s : State) (f : Choices) (r : Result Event Refusal) → Mute r → Tells f (step_with passes s f r)
+with_tells passes s f (Ok e) mute = event_tells passes s f e
+with_tells passes s f (Err e) mute = refusal_tells s f e (mute.is e refl)
 
 -- a line that is answered by a bad record: the keeper was read, and has it
-pub line_tells : (s : State) (f : Choices) (line : List ℕ) (k : ℕ) → (line_step s f line).answer ≡ Refuses (OfOutside (Journal k)) → f.keeper.reading ≡ BadRecord k
-line_tells s f line k e = (with_tells s f (line_event line) (value_mute (text_value line))).of k e
+pub line_tells : (passes : Passes) (s : State) (f : Choices) (line : List ℕ) (k : ℕ) → (line_step passes s f line).answer ≡ Refuses (OfOutside (Journal k)) → f.keeper.reading ≡ BadRecord k
+line_tells passes s f line k e = (with_tells passes s f (line_event line) (value_mute (text_value line))).of k e
 
 -- one that is answered by a fault of the signer: it failed
-pub line_signs : (s : State) (f : Choices) (line : List ℕ) → (line_step s f line).answer ≡ Refuses SignerFailed → f.signer ≡ SignerFails
-line_signs s f line e = (with_tells s f (line_event line) (value_mute (text_value line))).signer e
+pub line_signs : (passes : Passes) (s : State) (f : Choices) (line : List ℕ) → (line_step passes s f line).answer ≡ Refuses SignerFailed → f.signer ≡ SignerFails
+line_signs passes s f line e = (with_tells passes s f (line_event line) (value_mute (text_value line))).signer e
