@@ -9,9 +9,6 @@ use Rattle.spec_sealing.specs.Entries.{signed_entry}
 use Rattle.spec_sealing.specs.Passing.{tag_text, with_room, with_entry}
 use Rattle.spec_exchange.specs.Chain.{◌>>=◌, or_refused}
 use Rattle.spec_exchange.specs.AcceptRefusals as accepting
-use Rattle.spec_exchange.specs.Screens.{Passes}
-use Rattle.spec_exchange.specs.EntryChecks.{Claim, Verifying}
-use Rattle.spec_exchange.specs.Accepting.{first_failed}
 use Rattle.spec_exchange.specs.AcceptCalls.{accepted}
 use Rattle.spec_exchange.specs.SendingRefusals as sending
 use Rattle.spec_exchange.specs.Outside.{Choice, Cause, Own, Outside, no_fault, Reading, Read, ReadFails, BadRecord, Putting, Kept, Lost, KeptUntold, Outcome, behind_reading, or_refusal}

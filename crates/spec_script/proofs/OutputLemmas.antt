@@ -1,12 +1,11 @@
 -- The promises of runs, over the answers to lines.
 use Rattle.std.proofs.Common.{◌≡◌, ℕ, suc, ◌+◌, ◌≤◌, Bool, true, false, List, [], ◌∷◌, ◌++◌, length, Option, Some, None, Result, Ok, Err, refl, sym, ap, ◌∙◌, subst, arith}
 use Rattle.std.specs.Prelude.{count_by, MatchBool}
-use Rattle.std.specs.List.{list_any}
 use Rattle.std.proofs.lemmas.List.Sums.{sum_by-cons}
 use Rattle.std.proofs.lemmas.Grind.{common_steps}
 use Rattle.std.proofs.lemmas.List.{append-nil}
 use Rattle.spec_documents.specs.Tree.{Tree}
-use Rattle.spec_messages.specs.Message.{Message, Kind}
+use Rattle.spec_messages.specs.Message.{Kind}
 use Rattle.spec_records.specs.Records.{Record, was_delivered, was_sent}
 use Rattle.spec_exchange.specs.AcceptRefusals as accepting
 use Rattle.spec_exchange.specs.SendingRefusals as sending
@@ -91,11 +90,17 @@ one_more p passes s mid f r n a rest c told left run =
     let held : mid.records ≡ AcceptRuns.after passes s.records (of_accepting f) c.call = ap (λ (z : State). z.records) left ∙ ap (with_put s.records) c.put in
     let same : bit (p (reply_in a)) ≡ bit (p (AcceptRuns.reply_of passes s.records (of_accepting f) c.call)) = ap bit (ap (λ (z : Answer). p (reply_in z)) told ∙ c.reply) in
     let later : count_by p (AcceptRuns.replies passes mid.records run.events) ≡ count_by p (AcceptRuns.replies passes (AcceptRuns.after passes s.records (of_accepting f) c.call) run.events) =
-        ap (λ (z : List Record). count_by p (AcceptRuns.replies passes z run.events)) held in
+    ap (λ (z : List Record). count_by p (AcceptRuns.replies passes z run.events)) held in
     record {
       events = (of_accepting f, c.call) ∷ run.events;
-      count = omega (arith, sum_by-cons (λ (x : Numbered). bit (p (reply_in x.1))) (n, a) rest, same, run.count, later,
-          sum_by-cons (λ x. bit (p x)) (AcceptRuns.reply_of passes s.records (of_accepting f) c.call) (AcceptRuns.replies passes (AcceptRuns.after passes s.records (of_accepting f) c.call) run.events));
+      count = omega (
+        arith,
+        sum_by-cons (λ (x : Numbered). bit (p (reply_in x.1))) (n, a) rest,
+        same,
+        run.count,
+        later,
+        sum_by-cons (λ x. bit (p x)) (AcceptRuns.reply_of passes s.records (of_accepting f) c.call) (AcceptRuns.replies passes (AcceptRuns.after passes s.records (of_accepting f) c.call) run.events),
+      );
     }
 
 run_of : (m : Meanings) (p : AcceptRuns.Reply → Bool) → OfReplies p → (s : State) (n : ℕ) (lines : List (List ℕ)) (answers : List Numbered) (last : State) → Answered m s n lines answers last → IsRun p m.passes s.records answers
