@@ -1,5 +1,5 @@
 -- A step over the records that are held.
-use Rattle.std.proofs.Common.{◌≡◌, true, IfSome, ℕ, List, [], ◌∷◌, ◌++◌, Option, Some, None, IfOk, Result, Ok, Err, refl, sym, subst, ◌∙◌}
+use Rattle.std.proofs.Common.{◌≡◌, true, false, Bool, IfSome, ℕ, List, [], ◌∷◌, ◌++◌, Option, Some, None, IfOk, Result, Ok, Err, refl, sym, subst, ◌∙◌}
 use Rattle.spec_documents.specs.Tree.{Tree}
 use Rattle.spec_documents.specs.Reading.{ReadsTo}
 use Rattle.n32_values.specs.declared.memory.NoMemory.{NoMemory}

@@ -7,7 +7,7 @@ use Rattle.replay_world.specs.Outsiders.{Outsiders, Acting, Acted, Signed}
 use Rattle.replay_world.proofs.Signing.{some_signing}
 
 -- the verifier says whatever, and doesn't fail
-any_saying : Saying
+abbrev any_saying : Saying
 any_saying = record { said = λ number. true; failing = None }
 
 -- ---- under a verifier
