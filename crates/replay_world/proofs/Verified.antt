@@ -1,5 +1,5 @@
 -- What an event goes by where it asks a verifier, and where it asks none.
-use Rattle.std.proofs.Common.{◌≡◌, ℕ, true, Option, None, refl}
+use Rattle.std.proofs.Common.{ℕ, true, Option, None, refl}
 use Rattle.spec_exchange.specs.EntryChecks.{Verifying}
 use Rattle.spec_script.specs.Choices.{Signing}
 use Rattle.entry_checks.specs.Verifiers.{Meaning, Saying, UnderVerifier, verifying}
