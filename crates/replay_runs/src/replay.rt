@@ -27,22 +27,36 @@ use std::alloc::Global;
 /// intermediaries and verifies that, and the screen of its receivers. It was lent them all.
 #[derive(Drop)]
 pub struct Events<
-    'a,
+    'w,
+    'k,
+    'g,
+    'v,
+    's,
     K: Keeper,
     G: Signer,
     V: Verifier,
     R: ScreenRule,
     F: Fn(&Message, &PlmnId) -> bool,
 > {
-    world: &'a mut World,
-    keeper: &'a mut K,
-    signer: &'a mut G,
-    verifier: &'a mut V,
-    screen: &'a Screen<F, R>,
+    world: &'w mut World,
+    keeper: &'k mut K,
+    signer: &'g mut G,
+    verifier: &'v mut V,
+    screen: &'s Screen<F, R>,
 }
 
-impl<'a, K: Keeper, G: Signer, V: Verifier, R: ScreenRule, F: Fn(&Message, &PlmnId) -> bool> Machine
-    for Events<'a, K, G, V, R, F> {
+impl<
+    'w,
+    'k,
+    'g,
+    'v,
+    's,
+    K: Keeper,
+    G: Signer,
+    V: Verifier,
+    R: ScreenRule,
+    F: Fn(&Message, &PlmnId) -> bool,
+> Machine for Events<'w, 'k, 'g, 'v, 's, K, G, V, R, F> {
     ghost use Rattle.replay_world.specs.Worlds.{IsReady};
     ghost use Rattle.replay_world.specs.Outsiders.{told, outsiders};
     ghost use Rattle.message_screens.specs.Screening.{IsScreen, rule_of};
@@ -89,6 +103,7 @@ impl<'a, K: Keeper, G: Signer, V: Verifier, R: ScreenRule, F: Fn(&Message, &Plmn
 
 // Answers each line of the script in a world whose records were read, and which has no node and no document yet.
 fn replay_lines<
+    's,
     S: Source,
     O: Sink,
     K: Keeper,
@@ -103,7 +118,7 @@ fn replay_lines<
     keeper: &mut K,
     signer: &mut G,
     verifier: &mut V,
-    screen: &Screen<F, R>,
+    screen: &'s Screen<F, R>,
     world: &mut World,
 ) -> Status
     requires ready { IsReady (K.held keeper.old) world.old }
@@ -127,7 +142,7 @@ fn replay_lines<
     ensures others { OthersStay (outsiders (G.algorithm signer.old) (G.meaning signer.old) (G.faults signer.old) (V.meaning verifier.old) (V.faults verifier.old) (R.passes (rule_of screen.now)))
         (outsiders (G.algorithm signer.new) (G.meaning signer.new) (G.faults signer.new) (V.meaning verifier.new) (V.faults verifier.new) (R.passes (rule_of screen.now))) }
 {
-    let mut machine = Events {
+    let mut machine: Events<'_, '_, '_, '_, 's, K, G, V, R, F> = Events {
         world,
         keeper,
         signer,
