@@ -103,7 +103,6 @@ impl<
 
 // Answers each line of the script in a world whose records were read, and which has no node and no document yet.
 fn replay_lines<
-    's,
     S: Source,
     O: Sink,
     K: Keeper,
@@ -118,7 +117,7 @@ fn replay_lines<
     keeper: &mut K,
     signer: &mut G,
     verifier: &mut V,
-    screen: &'s Screen<F, R>,
+    screen: &Screen<F, R>,
     world: &mut World,
 ) -> Status
     requires ready { IsReady (K.held keeper.old) world.old }
@@ -142,7 +141,7 @@ fn replay_lines<
     ensures others { OthersStay (outsiders (G.algorithm signer.old) (G.meaning signer.old) (G.faults signer.old) (V.meaning verifier.old) (V.faults verifier.old) (R.passes (rule_of screen.now)))
         (outsiders (G.algorithm signer.new) (G.meaning signer.new) (G.faults signer.new) (V.meaning verifier.new) (V.faults verifier.new) (R.passes (rule_of screen.now))) }
 {
-    let mut machine: Events<'_, '_, '_, '_, 's, K, G, V, R, F> = Events {
+    let mut machine = Events {
         world,
         keeper,
         signer,
