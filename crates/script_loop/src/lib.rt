@@ -11,6 +11,7 @@ mod lines;
 mod machine;
 mod script;
 
+pub use answer::write_all;
 pub use ending::Ending;
 pub use line_buffer::LINE_LIMIT;
 pub use machine::Machine;
