@@ -27,11 +27,11 @@ use std::alloc::Global;
 /// intermediaries and verifies that, and the screen of its receivers. It was lent them all.
 #[derive(Drop)]
 pub struct Events<'a, K: Keeper, G: Signer, V: Verifier, R: ScreenRule, F: Fn(&Message, &PlmnId) -> bool> {
-    world: &'a mut World,
-    keeper: &'a mut K,
-    signer: &'a mut G,
-    verifier: &'a mut V,
-    screen: &'a Screen<F, R>,
+    pub(crate) world: &'a mut World,
+    pub(crate) keeper: &'a mut K,
+    pub(crate) signer: &'a mut G,
+    pub(crate) verifier: &'a mut V,
+    pub(crate) screen: &'a Screen<F, R>,
 }
 
 impl<'a, K: Keeper, G: Signer, V: Verifier, R: ScreenRule, F: Fn(&Message, &PlmnId) -> bool>
