@@ -1,5 +1,5 @@
 -- From the playing over loaded records to the whole run of `exercise N`: the faults are counted from before the load, and the load may end the run.
-use Rattle.std.proofs.Common.{◌≡◌, ℕ, ◌≤◌, ⊤, List, [], ◌++◌, length, refl, sym, subst, ◌∙◌, append-nil, arith, inl, inr, None, Some, IfSome}
+use Rattle.std.proofs.Common.{◌≡◌, ℕ, ◌≤◌, List, [], ◌++◌, length, refl, sym, subst, ◌∙◌, append-nil, arith, inl, inr, None, Some, IfSome}
 use Rattle.std.specs.Prelude.{Option}
 use Rattle.std.specs.Io.KnownBytes.{Appends}
 use Rattle.std.proofs.KnownBytes.{Appends-nil}
@@ -64,6 +64,7 @@ earlier_whole means messages records held first faults faults' le x = record {
 
 earlier_part : (means : Meanings) (messages : ℕ) (records : List Record) (held : Option (List (List ℕ))) (first faults faults' : Counts) (before after : Option (List ℕ)) → Later first faults
     → SummarisesInPart means messages records held faults faults' before after → SummarisesInPart means messages records held first faults' before after
+unfolding earlier_whole
 earlier_part means messages records held first faults faults' before after le x = record { whole = earlier_whole means messages records held first faults faults' le x.whole; written = x.written }
 
 earlier_stops : (means : Meanings) (messages : ℕ) (records : List Record) (held : Option (List (List ℕ))) (first faults faults' : Counts) → Later first faults
@@ -79,6 +80,7 @@ earlier_stops means messages records held first faults faults' le x = record {
 
 earlier : (means : Meanings) (messages : ℕ) (records : List Record) (held : Option (List (List ℕ))) (first faults faults' : Counts) (before after : Option (List ℕ)) (s : Status) → Later first faults
     → Leaves means messages records held faults faults' before after s → Leaves means messages records held first faults' before after s
+unfolding earlier_whole
 earlier means messages records held first faults faults' before after status.Done le e = record { whole = earlier_whole means messages records held first faults faults' le e.whole; written = e.written }
 earlier means messages records held first faults faults' before after status.WriteFault le e = earlier_part means messages records held first faults faults' before after le e
 earlier means messages records held first faults faults' before after status.NoMemory le e = elim e [
@@ -146,6 +148,7 @@ plain_out means messages records = record {
 }
 
 front_of_none : (means : Meanings) (messages : ℕ) (records : List Record) (before after : Option (List ℕ)) → after ≡ before → WritesFront means messages records before after
+unfolding plain_out
 front_of_none means messages records before after same = record {
   out = plain_output means records (script_text messages);
   last = plain_state means (begin records) (lines_of (script_text messages));

@@ -77,6 +77,7 @@ record Played (means : Meanings) {M : Type 0} (outside : M → Told) (world : M 
 played : (means : Meanings) {M : Type 0} (outside : M → Told) (world : M → World) (old : M) (records : List Record) (number : ℕ) (following : List (List ℕ)) (texts : List (List ℕ)) (new : M)
     → AllByRecursion (λ line. is_blank line ≡ false) following → TellsRecords (outside old).held records → length records ≤ record_limit → meanings_of (outside old).others ≡ Some means
     → AnswersLines (gives_of outside world) old number following texts new → Played means outside world old records number following texts new
+unfolding went_then
 played means outside world old records number [] texts new speak t few is h =
     let w = went means outside world old records number [] (answer_lines texts) new t few is (ap answer_lines h.0, h.1) in
     record { done = w; texts_are = h.0 ∙ sym (ap texts_of w.answered.0) }
