@@ -1,5 +1,5 @@
 -- What a run over the script of `exercise N` leaves, by its ending.
-use Rattle.std.specs.Prelude.{◌≡◌, ◌⊎◌, ℕ, ◌<◌, List, ◌++◌, length, Option}
+use Rattle.std.specs.Prelude.{◌≡◌, ◌⊎◌, ℕ, List, Option}
 use Rattle.std.specs.Io.KnownBytes.{Appends}
 use Rattle.spec_documents.specs.Lines.{Gives}
 use Rattle.spec_exercise.specs.Documents.{lines}
