@@ -1,4 +1,5 @@
 pub mod StepLemmas
+pub mod VerifierLemmas
 pub mod FaultLemmas
 pub mod OutputLemmas
 pub mod StateLemmas
