@@ -28,6 +28,7 @@ use std::alloc::Global;
 #[derive(Drop)]
 pub struct Events<
     'a,
+    's,
     K: Keeper,
     G: Signer,
     V: Verifier,
@@ -38,11 +39,18 @@ pub struct Events<
     pub(crate) keeper: &'a mut K,
     pub(crate) signer: &'a mut G,
     pub(crate) verifier: &'a mut V,
-    pub(crate) screen: &'a Screen<F, R>,
+    pub(crate) screen: &'s Screen<F, R>,
 }
 
-impl<'a, K: Keeper, G: Signer, V: Verifier, R: ScreenRule, F: Fn(&Message, &PlmnId) -> bool> Machine
-    for Events<'a, K, G, V, R, F> {
+impl<
+    'a,
+    's,
+    K: Keeper,
+    G: Signer,
+    V: Verifier,
+    R: ScreenRule,
+    F: Fn(&Message, &PlmnId) -> bool,
+> Machine for Events<'a, 's, K, G, V, R, F> {
     ghost use Rattle.replay_world.specs.Worlds.{IsReady};
     ghost use Rattle.replay_world.specs.Outsiders.{told, outsiders};
     ghost use Rattle.message_screens.specs.Screening.{IsScreen, rule_of};
