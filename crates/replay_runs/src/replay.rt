@@ -27,7 +27,10 @@ use std::alloc::Global;
 /// intermediaries and verifies that, and the screen of its receivers. It was lent them all.
 #[derive(Drop)]
 pub struct Events<
-    'a,
+    'w,
+    'k,
+    'g,
+    'v,
     's,
     K: Keeper,
     G: Signer,
@@ -35,22 +38,25 @@ pub struct Events<
     R: ScreenRule,
     F: Fn(&Message, &PlmnId) -> bool,
 > {
-    pub(crate) world: &'a mut World,
-    pub(crate) keeper: &'a mut K,
-    pub(crate) signer: &'a mut G,
-    pub(crate) verifier: &'a mut V,
+    pub(crate) world: &'w mut World,
+    pub(crate) keeper: &'k mut K,
+    pub(crate) signer: &'g mut G,
+    pub(crate) verifier: &'v mut V,
     pub(crate) screen: &'s Screen<F, R>,
 }
 
 impl<
-    'a,
+    'w,
+    'k,
+    'g,
+    'v,
     's,
     K: Keeper,
     G: Signer,
     V: Verifier,
     R: ScreenRule,
     F: Fn(&Message, &PlmnId) -> bool,
-> Machine for Events<'a, 's, K, G, V, R, F> {
+> Machine for Events<'w, 'k, 'g, 'v, 's, K, G, V, R, F> {
     ghost use Rattle.replay_world.specs.Worlds.{IsReady};
     ghost use Rattle.replay_world.specs.Outsiders.{told, outsiders};
     ghost use Rattle.message_screens.specs.Screening.{IsScreen, rule_of};
