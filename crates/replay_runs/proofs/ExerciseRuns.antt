@@ -1,5 +1,5 @@
 -- From the playing over loaded records to the whole run of `exercise N`: the faults are counted from before the load, and the load may end the run.
-use Rattle.std.proofs.Common.{◌≡◌, ℕ, ◌≤◌, List, [], ◌++◌, length, refl, sym, subst, ◌∙◌, append-nil, arith, inl, inr, None, Some, IfSome}
+use Rattle.std.proofs.Common.{◌≡◌, ℕ, ◌≤◌, List, [], length, refl, sym, subst, append-nil, arith, inl, inr, None, Some, IfSome}
 use Rattle.std.specs.Prelude.{Option}
 use Rattle.std.specs.Io.KnownBytes.{Appends}
 use Rattle.std.proofs.KnownBytes.{Appends-nil}
@@ -14,7 +14,7 @@ use Rattle.spec_exercise.specs.Texts.{script_text}
 use Rattle.exercise_word.specs.Endings as word
 use Rattle.spec_records.specs.Records.{Record, record_limit}
 use Rattle.spec_script.specs.Choices.{Meanings}
-use Rattle.spec_script.specs.Output.{Numbered, Output, answers_text, begin}
+use Rattle.spec_script.specs.Output.{Output, begin}
 use Rattle.context_store.specs.Stores.{Holds, IsFirstBad}
 use Rattle.replay_world.specs.Outsiders.{Told}
 use Rattle.replay_world.specs.Worlds.{TellsRecords, state_of}
@@ -25,7 +25,7 @@ use Rattle.replay_runs.specs.Statuses.{status_of}
 use Rattle.replay_runs.specs.Unfailing.{plain_answers, plain_output, plain_state}
 use Rattle.replay_runs.specs.Replays.{OverRecords, AreHeld, IsComplete}
 use Rattle.replay_runs.specs.Loads.{IsRefused}
-use Rattle.replay_runs.specs.Exercises.{Exercises, Summarises, SummarisesInPart, StopsExercise, Leaves, WritesFront, Unwritten, IsOfExercise, summary_of}
+use Rattle.replay_runs.specs.Exercises.{Exercises, SummarisesInPart, StopsExercise, Leaves, WritesFront, Unwritten, IsOfExercise, summary_of}
 use Rattle.replay_runs.specs.declared.status.Status.{Status}
 use Rattle.replay_runs.specs.declared.status.Status.TheVariants as status
 use Rattle.replay_runs.proofs.Plain.{plain_answered}

@@ -1,5 +1,5 @@
 -- The script of `exercise N`, answered line by line, in the words of records and answers.
-use Rattle.std.proofs.Common.{◌≡◌, ℕ, ◌+◌, ◌≤◌, List, [], ◌∷◌, ◌++◌, length, take, map, refl, ap, ap₂, sym, subst, ◌∙◌, append-nil, arith, true, false, Some, inl, inr}
+use Rattle.std.proofs.Common.{◌≡◌, ℕ, ◌+◌, ◌≤◌, List, [], ◌∷◌, ◌++◌, length, take, refl, ap, ap₂, sym, subst, ◌∙◌, append-nil, arith, true, false, Some, inl, inr}
 use Rattle.std.specs.Prelude.{Option, slice_get}
 use Rattle.std.specs.List.{AllByRecursion}
 use Rattle.std.specs.Io.KnownBytes.{Appends}
@@ -171,7 +171,7 @@ stops_of means {M} outside world gives_up messages records old new t few is begi
     at_next : gives_up s.mid (length s.first + 1) s.line new → StopsExercise means messages records (outside new).held (counts_of (outside old)) (counts_of (outside new))
     at_next given_up =
         let l = given_reply means outside world gives_up (script_text messages) (script_text messages) (length s.first) s.line [] (counts_of (outside old)) w.answers w.last s.mid new ending.NoMemory
-            w.state_is w.held_is w.still w.causes kept (record { there = there; whole = there }) (record { memory = refl; none = refl; left = given_up }) in
+        w.state_is w.held_is w.still w.causes kept (record { there = there; whole = there }) (record { memory = refl; none = refl; left = given_up }) in
         record { number = length s.first; answers = w.answers; mid = w.last; answered = answered; held_is = l.held_is; causes = l.causes }
 
     behind_next : (text : List ℕ) → gives_of outside world s.mid (length s.first + 1) s.line text new → StopsExercise means messages records (outside new).held (counts_of (outside old)) (counts_of (outside new))
@@ -204,8 +204,8 @@ exercise_leaves means outside world gives_up messages records old new before aft
     record { whole = a.whole; written = subst (λ (z : List ℕ). WritesSome z before after) a.summary_is e.written }
 exercise_leaves means outside world gives_up messages records old new before after ending.NoMemory t few is begins kept e = elim e [
   | inl p ↦
-    let a = all_of means outside world messages records old new p.texts t few is begins p.answered in
-    inl (record { whole = a.whole; written = subst (λ (z : List ℕ). WritesSome z before after) a.summary_is p.written })
+      let a = all_of means outside world messages records old new p.texts t few is begins p.answered in
+      inl (record { whole = a.whole; written = subst (λ (z : List ℕ). WritesSome z before after) a.summary_is p.written })
   | inr p ↦ inr (p.1, stops_of means outside world gives_up messages records old new t few is begins kept p.0)
 ]
 exercise_leaves means outside world gives_up messages records old new before after ending.ReadFault t few is begins kept e = absurd e

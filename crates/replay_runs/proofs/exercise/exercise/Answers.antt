@@ -2,7 +2,7 @@ use Rattle.std.proofs.Common.{arith}
 use Rattle.message_screens.specs.Screening.{rule_of}
 use Rattle.replay_runs.specs.Outsiders.{counts, meanings_told}
 use Rattle.replay_runs.proofs.Loaded.{means_any, means_on, bad_none}
-use Rattle.replay_runs.proofs.ExerciseRuns.{exercise_loaded, exercise_unplayed, exercise_refused, exercise_front, exercise_none, exercise_bad, exercise_complete, playing_complete}
+use Rattle.replay_runs.proofs.ExerciseRuns.{exercise_loaded, exercise_unplayed, exercise_front, exercise_none, exercise_bad, exercise_complete, playing_complete}
 use Rattle.replay_runs.proofs.exercise.exercise.Goals as goal
 
 pub returns-in-Ok-clause-summary : goal.returns-in-Ok-clause-summary
