@@ -94,7 +94,7 @@ def run_commands(folder, programs):
     wrong = []
     for page, first, lines in of_kind("console"):
         for command, wanted in commands(lines):
-            done = subprocess.run(["bash", "-c", command], cwd=os.path.join(folder, "examples"), env=how, stdout=subprocess.PIPE, stderr=subprocess.STDOUT)
+            done = subprocess.run(["bash", "-c", command], cwd=os.path.join(folder, "examples"), env=how, stdin=subprocess.DEVNULL, stdout=subprocess.PIPE, stderr=subprocess.STDOUT)
             printed = done.stdout.decode().splitlines()
             if printed != wanted:
                 wrong.append((page, first, command, printed))

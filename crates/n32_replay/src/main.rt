@@ -1,9 +1,10 @@
-//! `n32_replay`: reads a script on standard input, line by line, and writes one answer line for each line.
+//! `n32_replay`: reads a script on standard input, line by line, and writes one answer line for each line, or plays a script of its own.
 //!
 //! `n32_replay blocks` answers each request with its integrity-protected block under the empty policy. `n32_replay replay [FILE]`
-//! answers the events of a script, over records in memory or in the journal FILE. The intermediaries of a script sign by HMAC,
-//! each with a key made from the root `n32-demo` and its identity, and receivers verify by the same keys. A message that names
-//! another network than its peer's is screened out.
+//! answers the events of a script, over records in memory or in the journal FILE. `n32_replay exercise N` reads nothing: it plays
+//! its own script with N messages over records in memory, and writes the summary of the answers. The intermediaries of a script sign
+//! by HMAC, each with a key made from the root `n32-demo` and its identity, and receivers verify by the same keys. A message that
+//! names another network than its peer's is screened out.
 #![tactic(auto)]
 
 ghost use Rattle.std.specs.Prelude.{◌≡◌, ◌⊎◌, ◌↔◌, None, IfErr, IfOk, codes};

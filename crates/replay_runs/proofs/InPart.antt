@@ -27,7 +27,7 @@ use Rattle.replay_runs.proofs.Went.{gives_of, answer_sound, causes_more, causes_
 
 -- ---- the keeper's faults
 
-causes_append : (xs ys : List Numbered) (before mid now : Counts) → OutsideAnswers xs before mid → OutsideAnswers ys mid now → OutsideAnswers (xs ++ ys) before now
+pub causes_append : (xs ys : List Numbered) (before mid now : Counts) → OutsideAnswers xs before mid → OutsideAnswers ys mid now → OutsideAnswers (xs ++ ys) before now
 causes_append xs ys before mid now k l = record {
   keeper = rw (sum_by-append (λ (x : Numbered). cond (tells_keeper x) 1 0) xs ys) (both (count_by tells_keeper xs) (count_by tells_keeper ys) before.keeper mid.keeper now.keeper k.keeper l.keeper);
   signer = rw (sum_by-append (λ (x : Numbered). cond (tells_signer x) 1 0) xs ys) (both (count_by tells_signer xs) (count_by tells_signer ys) before.signer mid.signer now.signer k.signer l.signer);

@@ -57,7 +57,7 @@ first_of means outside world count script records old new before after t few is 
 abbrev output_of : (means : Meanings) (script : List ℕ) (records : List Record) (answers : List Numbered) (last : State) → Answered means (begin records) 1 (lines_of script) answers last → Output means records script (answers_text answers) last
 output_of means script records answers last answered = record { answers = answers; answered = answered; text = refl }
 
-one_output : (means : Meanings) (script : List ℕ) (records : List Record) (answers : List Numbered) (last : State) (faults faults' : Counts) → Answered means (begin records) 1 (lines_of script) answers last → OutsideAnswers answers faults faults'
+pub one_output : (means : Meanings) (script : List ℕ) (records : List Record) (answers : List Numbered) (last : State) (faults faults' : Counts) → Answered means (begin records) 1 (lines_of script) answers last → OutsideAnswers answers faults faults'
     → (Rose faults.keeper faults'.keeper → ⊥) → (Rose faults.signer faults'.signer → ⊥) → (Rose faults.verifier faults'.verifier → ⊥) → (answers_text answers ≡ plain_output means records script) × (last ≡ plain_state means (begin records) (lines_of script))
 one_output means script records answers last faults faults' answered k none unsigned unverified =
     let p = is_plain means (begin records) 1 (lines_of script) answers last answered (none_rose (count_by tells_keeper answers) faults.keeper faults'.keeper k.keeper none) (none_rose (count_by tells_signer answers) faults.signer faults'.signer k.signer unsigned) (none_rose (count_by tells_verifier answers) faults.verifier faults'.verifier k.verifier unverified) k.sound in

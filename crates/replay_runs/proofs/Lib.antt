@@ -5,3 +5,5 @@ pub mod GivenUp
 pub mod InPart
 pub mod Left
 pub mod Loaded
+pub mod Exercised
+pub mod ExerciseRuns

@@ -31,7 +31,7 @@ use Rattle.replay_runs.proofs.Plain.{answered_then, into_spoken, text-append, pl
 
 -- ---- counted from before the load
 
-earlier_causes : (answers : List Numbered) (first faults faults' : Counts) → Later first faults → OutsideAnswers answers faults faults' → OutsideAnswers answers first faults'
+pub earlier_causes : (answers : List Numbered) (first faults faults' : Counts) → Later first faults → OutsideAnswers answers faults faults' → OutsideAnswers answers first faults'
 earlier_causes answers first faults faults' le k = record { keeper = omega (arith, k.keeper, le.keeper); signer = omega (arith, k.signer, le.signer); verifier = omega (arith, k.verifier, le.verifier); sound = k.sound }
 
 earlier_all : (means : Meanings) (script : List ℕ) (records : List Record) (held : Option (List (List ℕ))) (first faults faults' : Counts) (before after : Option (List ℕ)) → Later first faults → RepliesToAll means script records held faults faults' before after → RepliesToAll means script records held first faults' before after
@@ -114,11 +114,11 @@ earlier means script left records held first faults faults' before after (status
 earlier means script left records held first faults faults' before after status.KeeperFault le e = e
 earlier means script left records held first faults faults' before after status.Words le e = absurd e
 
-over_weaker : (held : Option (List (List ℕ))) (P Q : List Record → Type 0) → ((records : List Record) → P records → Q records) → OverRecords held P → OverRecords held Q
+pub over_weaker : (held : Option (List (List ℕ))) (P Q : List Record → Type 0) → ((records : List Record) → P records → Q records) → OverRecords held P → OverRecords held Q
 over_weaker None P Q f h = tt
 over_weaker (Some texts) P Q f h = λ records are. f records (h records are)
 
-over_any : (held : Option (List (List ℕ))) (P : List Record → Type 0) → ((records : List Record) → TellsRecords held records → P records) → OverRecords held P
+pub over_any : (held : Option (List (List ℕ))) (P : List Record → Type 0) → ((records : List Record) → TellsRecords held records → P records) → OverRecords held P
 over_any None P f = tt
 over_any (Some texts) P f = λ records are. f records (record { texts = texts; told = refl; are = are })
 

@@ -5,4 +5,5 @@ pub mod Unfailing
 pub mod Replays
 pub mod Loads
 pub mod Lines
+pub mod Exercises
 pub mod Runs

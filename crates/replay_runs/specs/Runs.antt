@@ -11,9 +11,10 @@ use Rattle.replay_world.specs.Outsiders.{Outsiders, OthersStay}
 use Rattle.replay_runs.specs.Outsiders.{Counts, counts, meanings_of}
 use Rattle.replay_runs.specs.Statuses.{status_of}
 use Rattle.replay_runs.specs.Replays.{Leaves, WritesFront, OverRecords, AreHeld, IsComplete}
+use Rattle.replay_runs.specs.Exercises.{RunsExercise}
 use Rattle.replay_runs.specs.Loads.{IsRefused, NamesBad, AtLoad, Untouched}
 use Rattle.replay_runs.specs.declared.command.Command.{Command}
-use Rattle.replay_runs.specs.declared.command.Command.TheVariants.{Blocks, Replay}
+use Rattle.replay_runs.specs.declared.command.Command.TheVariants.{Blocks, Replay, Exercise}
 use Rattle.replay_runs.specs.declared.status.Status.{Status}
 use Rattle.replay_runs.specs.declared.status.Status.TheVariants as status
 
@@ -94,3 +95,5 @@ abbrev pub Ran : {S O K G V : Type 0} → Option Command → (source source' : S
 Ran None source source' sink sink' keeper keeper' signer signer' verifier verifier' before after result = IsUnknown source source' sink sink' keeper keeper' signer signer' verifier verifier' result
 Ran (Some Blocks) source source' sink sink' keeper keeper' signer signer' verifier verifier' before after result = RunsBlocks keeper keeper' signer signer' verifier verifier' before after result
 Ran (Some Replay) source source' sink sink' keeper keeper' signer signer' verifier verifier' before after result = RunsReplay source source' sink sink' before after result
+Ran (Some (Exercise messages)) source source' sink sink' keeper keeper' signer signer' verifier verifier' before after result =
+    RunsExercise messages source source' sink sink' (meanings_of before.others) before.held after.held (counts_seen before) (counts_seen after) before.write_faults after.write_faults before.written after.written result

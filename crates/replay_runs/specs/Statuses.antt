@@ -9,7 +9,7 @@ use Rattle.replay_runs.specs.declared.status.Status.TheVariants.{Done, Words, Re
 -- the text on standard error
 abbrev pub status_text : Status → List ℕ
 status_text Done = []
-status_text Words = codes "usage: n32_replay blocks | replay [FILE]"
+status_text Words = codes "usage: n32_replay blocks | replay [FILE] | exercise N"
 status_text ReadFault = codes "n32_replay: read fault"
 status_text WriteFault = codes "n32_replay: write fault"
 status_text (LineTooLong n) = codes "n32_replay: line " ++ (decimal n ++ codes " too long")

@@ -5,6 +5,7 @@
 #![tactic(auto)]
 
 mod command;
+mod exercise;
 pub mod laws;
 mod replay;
 mod running;

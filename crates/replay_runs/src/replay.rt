@@ -38,11 +38,11 @@ pub struct Events<
     R: ScreenRule,
     F: Fn(&Message, &PlmnId) -> bool,
 > {
-    world: &'w mut World,
-    keeper: &'k mut K,
-    signer: &'g mut G,
-    verifier: &'v mut V,
-    screen: &'s Screen<F, R>,
+    pub(crate) world: &'w mut World,
+    pub(crate) keeper: &'k mut K,
+    pub(crate) signer: &'g mut G,
+    pub(crate) verifier: &'v mut V,
+    pub(crate) screen: &'s Screen<F, R>,
 }
 
 impl<

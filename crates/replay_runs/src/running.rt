@@ -5,6 +5,7 @@ ghost use Rattle.replay_world.specs.Outsiders.{outsiders};
 ghost use Rattle.replay_runs.specs.Runs.{Ran, HasCauses, seen};
 
 use crate::command::{Command, read_command};
+use crate::exercise::exercise;
 use crate::replay::replay;
 use crate::status::Status;
 use http_message::Message;
@@ -16,8 +17,9 @@ use std::alloc::Global;
 /// Does what the words ask for: reads the source's script line by line, and writes one answer to each line.
 ///
 /// `blocks` answers each line by the block of its request under the empty policy, or by the first refusal. `replay` first reads
-/// the records that the keeper holds, and then answers the events of the script. The signer signs the entries of intermediaries, the
-/// verifier is asked of them where a document is delivered, and the screen of each message that is.
+/// the records that the keeper holds, and then answers the events of the script. `exercise N` reads them too, plays its own script
+/// over them, and writes the summary of the answers; it leaves the source as it is. The signer signs the entries of intermediaries,
+/// the verifier is asked of them where a document is delivered, and the screen of each message that is.
 pub fn run<
     S: Source,
     O: Sink,
@@ -60,6 +62,9 @@ pub fn run<
     match read_command(words) {
         Some(Command::Blocks) => Status::from(blocks_word::run(alloc, source, sink)),
         Some(Command::Replay) => replay(alloc, source, sink, keeper, signer, verifier, screen),
+        Some(Command::Exercise(messages)) => {
+            exercise(alloc, messages, sink, keeper, signer, verifier, screen)
+        }
         None => Status::Words,
     }
 }

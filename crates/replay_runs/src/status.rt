@@ -6,7 +6,7 @@ use std::fmt;
 /// How a run ended. Its text goes to standard error, and its number is the program's exit status.
 #[derive(Clone, Copy, Debug, PartialEq, Eq, Drop)]
 pub enum Status {
-    /// The source was read to its end, and every answer was written.
+    /// The source was read to its end, or left unread by `exercise`, and all output was written.
     Done,
     /// The words are none that the program has.
     Words,
@@ -75,7 +75,7 @@ impl fmt::Display for Status {
     fn fmt<W: fmt::Write>(&self, f: &mut fmt::Formatter<W>) -> fmt::Result {
         match self {
             Status::Done => Ok(()),
-            Status::Words => f.write_str("usage: n32_replay blocks | replay [FILE]"),
+            Status::Words => f.write_str("usage: n32_replay blocks | replay [FILE] | exercise N"),
             Status::ReadFault => f.write_str("n32_replay: read fault"),
             Status::WriteFault => f.write_str("n32_replay: write fault"),
             Status::LineTooLong(number) => write!(f, "n32_replay: line {number} too long"),

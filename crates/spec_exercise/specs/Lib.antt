@@ -1,3 +1,4 @@
 pub mod Script
 pub mod Documents
 pub mod Summary
+pub mod Texts

@@ -21,6 +21,8 @@ use std::process::ExitCode;
 #[cfg(test)]
 mod answers;
 #[cfg(test)]
+mod exercises;
+#[cfg(test)]
 mod records;
 #[cfg(test)]
 mod runs;

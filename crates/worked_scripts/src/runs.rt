@@ -97,7 +97,7 @@ const BLOCK: &str =
 
 // What a run is given beside its keeper. Where memory is refused something is missing, and the run ends otherwise.
 #[derive(Drop)]
-struct Objects {
+pub(crate) struct Objects {
     words: TextList,
     source: Option<MemSource>,
     sink: MemSink,
@@ -139,7 +139,7 @@ fn signer_of(alloc: Global, fails: &[u64]) -> Option<FailAt<Hs256>> {
 }
 
 // The words of a call, a script, and the calls of source and sink that fail.
-fn objects_of(
+pub(crate) fn objects_of(
     alloc: Global,
     words: &[&str],
     script: &[u8],
@@ -181,7 +181,7 @@ fn joined(alloc: Global, texts: &[&str]) -> String {
 }
 
 // Whether a run over the objects ends so, and writes this.
-fn ends<K: Keeper>(
+pub(crate) fn ends<K: Keeper>(
     alloc: Global,
     mut objects: Objects,
     keeper: &mut K,
@@ -540,7 +540,7 @@ fn is_told(alloc: Global, status: Status, text: &str) -> bool {
 fn statuses_have_their_texts(rt: HostRuntime) {
     for (status, text, number) in [
         (Status::Done, "", 0),
-        (Status::Words, "usage: n32_replay blocks | replay [FILE]", 2),
+        (Status::Words, "usage: n32_replay blocks | replay [FILE] | exercise N", 2),
         (Status::ReadFault, "n32_replay: read fault", 3),
         (Status::WriteFault, "n32_replay: write fault", 4),
         (Status::LineTooLong(7), "n32_replay: line 7 too long", 5),

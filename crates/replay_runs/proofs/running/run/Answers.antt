@@ -1,6 +1,6 @@
 use Rattle.std.proofs.Common.{◌≡◌, Some, None, refl, sym, ◌∙◌}
 use Rattle.replay_runs.specs.Commands.{command_of}
-use Rattle.replay_runs.specs.declared.command.Command.TheVariants.{Blocks, Replay}
+use Rattle.replay_runs.specs.declared.command.Command.TheVariants.{Blocks, Replay, Exercise}
 use Rattle.replay_runs.proofs.running.run.Goals as goal
 
 pub returns-in-Some-Blocks-clause-ran : goal.returns-in-Some-Blocks-clause-ran
@@ -22,6 +22,21 @@ returns-in-Some-Replay-clause-ran g c =
       load = c.replay.ensures.load;
       complete = c.replay.ensures.complete;
       known = c.replay.ensures.named;
+    })
+
+pub returns-in-Some-Exercise-clause-ran : goal.returns-in-Some-Exercise-clause-ran
+returns-in-Some-Exercise-clause-ran g c =
+    let is : c.read_command.result ≡ Some (Exercise c.in-Some-Exercise.messages) = cc in
+    let command : command_of c.args.words.now ≡ Some (Exercise c.in-Some-Exercise.messages) = sym c.read_command.ensures ∙ is in
+    rw command (record {
+      source_stays = refl;
+      leaves = c.exercise.ensures.summary;
+      front = c.exercise.ensures.front;
+      journal = c.exercise.ensures.journal;
+      bad = c.exercise.ensures.bad;
+      load = c.exercise.ensures.load;
+      complete = c.exercise.ensures.complete;
+      known = c.exercise.ensures.named;
     })
 
 pub returns-in-None-clause-ran : goal.returns-in-None-clause-ran
