@@ -1,9 +1,11 @@
 // Runs over objects in memory whose calls fail, over records that were held before, and over a file.
+use http_message::Message;
 use jws_flat::Hs256;
+use message_screens::{OriginRule, Screen};
 use n32_outside::{
     CallList, FailAt, FailItem, FailList, FileKeeper, Keeper, MemKeeper, MemSink, MemSource,
 };
-use n32_values::{Bytes, Text, TextList};
+use n32_values::{Bytes, PlmnId, Text, TextList};
 use replay_runs::{Status, run};
 use std::alloc::Global;
 use std::fs;
@@ -100,6 +102,7 @@ struct Objects {
     source: Option<MemSource>,
     sink: MemSink,
     signer: Option<FailAt<Hs256>>,
+    verifier: Option<FailAt<Hs256>>,
 }
 
 fn words_of(alloc: Global, words: &[&str]) -> TextList {
@@ -127,7 +130,7 @@ fn source_of(alloc: Global, script: &[u8], fails: &[u64]) -> Option<MemSource> {
     }
 }
 
-// A signer that fails at these calls.
+// A signer, or a verifier, that fails at these calls.
 fn signer_of(alloc: Global, fails: &[u64]) -> Option<FailAt<Hs256>> {
     match Hs256::new(alloc, b"n32-demo") {
         Ok(signer) => Some(FailAt::new(signer, calls(alloc, fails))),
@@ -148,6 +151,7 @@ fn objects_of(
         source: source_of(alloc, script, reads),
         sink: MemSink::new(alloc, calls(alloc, writes)),
         signer: signer_of(alloc, &[]),
+        verifier: signer_of(alloc, &[]),
     }
 }
 
@@ -184,8 +188,16 @@ fn ends<K: Keeper>(
     wanted: Status,
     output: &str,
 ) -> bool {
-    match (&mut objects.source, &mut objects.signer) {
-        (Some(source), Some(signer)) => {
+    let screen = Screen::new(
+        |message: &Message, plmn: &PlmnId| OriginRule::passes(message, plmn),
+        OriginRule,
+    );
+    match (
+        &mut objects.source,
+        &mut objects.signer,
+        &mut objects.verifier,
+    ) {
+        (Some(source), Some(signer), Some(verifier)) => {
             let status = run(
                 alloc,
                 &objects.words,
@@ -193,6 +205,8 @@ fn ends<K: Keeper>(
                 &mut objects.sink,
                 keeper,
                 signer,
+                verifier,
+                &screen,
             );
             status == wanted && objects.sink.written() == output.as_bytes()
         }
