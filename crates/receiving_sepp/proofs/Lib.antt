@@ -1,2 +1,6 @@
+mod BlockTold
 mod Calls
+mod Counts
+mod Filling
+mod Stages
 mod Verified
