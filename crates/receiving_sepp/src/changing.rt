@@ -8,6 +8,7 @@ ghost use Rattle.http_message.specs.Reading.{message_view};
 ghost use Rattle.prins_document.specs.View.{entries_of};
 ghost use Rattle.context_records.specs.View.{context_view};
 ghost use Rattle.entry_checks.specs.Verifiers.{UnderVerifier};
+ghost use Rattle.entry_checks.specs.Views as of_entry;
 ghost use Rattle.entry_checks.specs.Views.{terms_view};
 ghost use Rattle.receiving_sepp.specs.Groups.{changed, changed_in};
 ghost use Rattle.receiving_sepp.specs.Refilling.{HasFill, Stands};
@@ -42,6 +43,15 @@ fn refill(alloc: Global, block: &Block, values: &NodeList) -> Result<Message, No
     }
 }
 
+fn of_entries(fault: EntriesFault) -> CheckFault
+    ensures { told result ≡ of_entry.told fault }
+{
+    match fault {
+        EntriesFault::Refused(entry) => CheckFault::Refused(Refused::Entry(entry)),
+        EntriesFault::NoMemory => CheckFault::NoMemory,
+    }
+}
+
 // The message that the entries leave of a block.
 fn patch<V: Verifier>(
     alloc: Global,
@@ -65,8 +75,7 @@ fn patch<V: Verifier>(
             Ok(message) => Ok(message),
             Err(_) => Err(CheckFault::NoMemory),
         },
-        Err(EntriesFault::Refused(entry)) => Err(CheckFault::Refused(Refused::Entry(entry))),
-        Err(EntriesFault::NoMemory) => Err(CheckFault::NoMemory),
+        Err(fault) => Err(of_entries(fault)),
     }
 }
 

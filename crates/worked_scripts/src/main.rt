@@ -36,12 +36,7 @@ fn replay_words(alloc: Global) -> Result<TextList, NoMemory>
     Ok(words)
 }
 
-fn answer_by(
-    rt: &HostRuntime,
-    words: &TextList,
-    signer: &mut Hs256,
-    verifier: &mut Hs256,
-) -> Status
+fn answer_by(rt: &HostRuntime, words: &TextList, signer: &mut Hs256, verifier: &mut Hs256) -> Status
     requires { command_of words.now ≡ Some Replay }
     ensures { result ≢ Status.Words }
 {

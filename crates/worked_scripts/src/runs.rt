@@ -257,6 +257,43 @@ fn a_fault_of_the_signer_leaves_the_wire(rt: HostRuntime) {
     );
 }
 
+// The document with an entry of ipx-a, computed apart from the program.
+const PASSED_8: &str =
+    "{\"document\":{\"modificationsBlock\":[{\"payload\":\"eyJpZGVudGl0eSI6ImlweC1hIiwib3BlcmF0aW9ucyI6W10sInRhZyI6Im1NbHpDd3FZb1pUM1FpTWNBNm9ZMmcifQ\",\"protected\":\"eyJhbGciOiJIUzI1NiJ9\",\"signature\":\"-3nabGHehIrNc_X01WmKAA5Ab91uSzyFP7PxPSxdczk\"}],\"reformattedData\":{\"aad\":\"eyJoZWFkZXJzIjpbeyJoZWFkZXIiOiJhY2NlcHQiLCJ2YWx1ZSI6ImFwcGxpY2F0aW9uL2pzb24ifV0sIm1ldGFEYXRhIjp7ImF1dGhvcml6ZWRJcHhJZCI6ImlweC1hIiwibWVzc2FnZUlkIjoiMDAwMDAwMDAwMDAwMDAwMCIsIm4zMmZDb250ZXh0SWQiOiIwMDAwMDAwMDAwMDAwMGIxIn0sInJlcXVlc3RMaW5lIjp7ImF1dGhvcml0eSI6InVkbS5leGFtcGxlIiwibWV0aG9kIjoiR0VUIiwicGF0aCI6Ii9udWRtLXNkbS92Mi97ZW5jQmxvY2tJbmRleD0wfS9uc3NhaSIsInByb3RvY29sVmVyc2lvbiI6IkhUVFAvMiIsInNjaGVtZSI6Imh0dHBzIn19\",\"ciphertext\":\"Zzb2AvTVkvAtcM02dImHwnWkMh3TvbW4wDADdqoUwfX91dWf1iwKaoPu\",\"iv\":\"AAECAwQFBgcAAAAA\",\"protected\":\"eyJhbGciOiJkaXIiLCJlbmMiOiJBMTI4R0NNIn0\",\"tag\":\"mMlzCwqYoZT3QiMcA6oY2g\"}},\"line\":8,\"wire\":2}\n";
+
+const DELIVER_PASSED: &str = "{\"do\":\"deliver\",\"node\":\"B\",\"wire\":2}\n";
+
+const VERIFIER_9: &str = "{\"detail\":\"1\",\"line\":9,\"name\":\"VERIFIER\",\"refused\":35}\n";
+
+// Whether a script is answered so, where the first call of the verifier fails.
+fn replays_unverified(alloc: Global, events: &[&str], answers: &[&str]) -> bool {
+    let script = joined(alloc, events);
+    let output = joined(alloc, answers);
+    let mut objects = objects_of(alloc, &["replay"], script.as_bytes(), &[], &[]);
+    objects.verifier = signer_of(alloc, &[0]);
+    let mut keeper = keeper_of(alloc, &[], &[]);
+    ends(alloc, objects, &mut keeper, Status::Done, output.as_str())
+}
+
+#[test]
+fn a_fault_of_the_verifier_delivers_nothing(rt: HostRuntime) {
+    assert!(rt;
+        replays_unverified(
+            rt.alloc(),
+            &[
+                OPENING,
+                KEYS_OF_A,
+                KEYS_OF_B,
+                SEND,
+                PASS,
+                DELIVER_PASSED,
+                DELIVER_PASSED
+            ],
+            &[OPENED, SENT, PASSED_8, VERIFIER_9, DELIVERED_10],
+        )
+    );
+}
+
 #[test]
 fn records_outlast_a_run(rt: HostRuntime) {
     let alloc = rt.alloc();
