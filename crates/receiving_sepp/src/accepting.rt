@@ -8,8 +8,8 @@ ghost use Rattle.entry_checks.specs.Verifiers.{UnderVerifier};
 ghost use Rattle.message_screens.specs.Screening.{IsScreen, rule_of};
 ghost use Rattle.receiving_sepp.specs.Outcome.{Accepts, IsOfVerifier};
 
-use crate::calling::accept_once;
-use crate::delivery::Delivered;
+use crate::checks::check;
+use crate::delivery::{Delivered, deliver};
 use crate::faults::AcceptFault;
 use context_store::Store;
 use http_message::Message;
@@ -22,11 +22,11 @@ use std::alloc::Global;
 /// Accepts a document at a node: checks it in the order of `Refused`, puts a record of the delivery, and
 /// delivers the message (TS 33.501 clause 13.2.4.6).
 ///
-/// A stale store is read first. The answer is that of the first check that fails. The verifier is asked of each
-/// entry once all before it holds, and of none where there is none; that it failed comes only where it did.
-/// `Keeper` comes only where the keeper failed, and the store was stale or every other check holds: the record
-/// of the delivery may then be held or not. `Journal` comes only where a stale store is read. After any other
-/// refusal nothing more is held, and the store has all records that are held.
+/// A stale store is read first. The answer is that of the first check that fails. That the verifier failed, at
+/// an entry, comes only where it did; where the document has no entry the verifier stays as it is. `Keeper`
+/// comes only where the keeper failed, and the store was stale or every other check holds: the record of the
+/// delivery may then be held or not. `Journal` comes only where a stale store is read. After any other refusal
+/// nothing more is held, and the store has all records that are held.
 pub fn accept<K: Keeper, V: Verifier, R: ScreenRule, F: Fn(&Message, &PlmnId) -> bool>(
     alloc: Global,
     store: &mut Store,
@@ -52,5 +52,7 @@ pub fn accept<K: Keeper, V: Verifier, R: ScreenRule, F: Fn(&Message, &PlmnId) ->
     ensures unasked { (d : Received) → received document.now ≡ Ok d → d.entries ≡ [] → verifier.new ≡ verifier.old }
 {
     verifier_failure_is_one();
-    accept_once(alloc, store, keeper, verifier, screen, node, document)
+    store.refresh(alloc, keeper)?;
+    let checked = check(alloc, store, verifier, screen, node, document)?;
+    deliver(alloc, store, keeper, node, checked)
 }

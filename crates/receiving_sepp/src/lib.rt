@@ -3,7 +3,6 @@
 #![tactic(auto)]
 
 mod accepting;
-mod calling;
 mod changing;
 mod checks;
 mod delivery;
