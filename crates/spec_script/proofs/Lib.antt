@@ -1,3 +1,4 @@
+pub mod HandLemmas
 pub mod StepLemmas
 pub mod FaultLemmas
 pub mod OutputLemmas

@@ -35,35 +35,6 @@ put_keeps s Kept name r = record { sites = λ e h. refl; sent = λ e h. refl; pu
 put_keeps s Lost name r = refusal_keeps s _
 put_keeps s KeptUntold name r = record { sites = λ e h. refl; sent = λ e h. refl; put = λ e h k. let same : OfOutside Keeper ≡ e = cc in other_than_keeper e same k }
 
-abbrev is_keeper_cause : {R : Type 0} → Cause R → Bool
-is_keeper_cause (Own refusal) = false
-is_keeper_cause (Outside Keeper) = true
-is_keeper_cause (Outside (Journal number)) = false
-
-other_cause : {R P : Type 0} (e : Cause R) → Outside Keeper ≡ e → is_keeper_cause e ≡ false → P
-other_cause e same k = let told : true ≡ false = ap is_keeper_cause same ∙ k in cc
-
--- a call that answers anything but the keeper's fault puts nothing, where it is refused
-pub record Clean {R T : Type 0} (o : Outcome R T) : Type 0 where
-  pub is : (e : Cause R) → o.result ≡ Err e → is_keeper_cause e ≡ false → o.put ≡ None
-
-clean_refused : {R T : Type 0} (d : Cause R) → Clean (outside.refused {R = R} {T = T} d)
-clean_refused d = record { is = λ e h k. refl }
-
-clean_puts : {R T : Type 0} (p : Putting) (r : Record) (x : T) → Clean {R = R} (outside.puts p r x)
-clean_puts Kept r x = record { is = λ e h k. cc }
-clean_puts Lost r x = record { is = λ e h k. refl }
-clean_puts {R} KeptUntold r x = record { is = λ (e : Cause R) h k. let same : Outside Keeper ≡ e = cc in other_cause e same k }
-
-clean_chain : {R X : Type 0} (p : Putting) (item : X → Record) (r : Result X R) → Clean (or_refusal r (λ y. outside.puts p (item y) y))
-clean_chain p item (Ok x) = clean_puts p (item x) x
-clean_chain p item (Err d) = clean_refused (Own d)
-
-clean_read : {R T : Type 0} (reading : Reading) (o : Outcome R T) → Clean o → Clean (behind_reading reading o)
-clean_read Read o h = h
-clean_read ReadFails o h = clean_refused _
-clean_read (BadRecord k) o h = clean_refused _
-
 -- the refusal of a call puts nothing
 abbrev PutsNone : {R T : Type 0} → Result T (Cause R) → Option Record → Type 0
 PutsNone {R} r p = (e : Cause R) → r ≡ Err e → is_keeper_cause e ≡ false → p ≡ None
@@ -83,14 +54,14 @@ delivery_keeps s t (Err (Outside Keeper)) p c = record { sites = λ e h. refl; s
 pub line_keeps : (s : State) (f : Choices) (line : List ℕ) → Keeps s (line_step s f line)
 line_keeps s f line = line_covered (λ r. Keeps s r) s f (record {
   refused = refusal_keeps s;
-  done = λ name. record { sites = λ e h. refl; sent = λ e h. refl; put = λ e h k. refl };
+  restarted = λ node. record { sites = λ e h. refl; sent = λ e h. refl; put = λ e h k. refl };
   node = λ n plmn. record { sites = λ e h. cc; sent = λ e h. refl; put = λ e h k. refl };
   put = put_keeps s f.keeper.putting;
   injected = λ t. record { sites = λ e h. refl; sent = λ e h. cc; put = λ e h k. refl };
   forwarded = λ t. record { sites = λ e h. refl; sent = λ e h. cc; put = λ e h k. refl };
   reported = λ r. record { sites = λ e h. refl; sent = λ e h. refl; put = λ e h k. refl };
-  sealed = λ n i o m. sealed_keeps s (sends f.keeper s.records n i o m).result (sends f.keeper s.records n i o m).put (clean_read f.keeper.reading _ (clean_chain f.keeper.putting sent_record (protected s.records n i o m))).is;
-  came = λ n t. delivery_keeps s t (accepted f.keeper s.records n t).result (accepted f.keeper s.records n t).put (clean_read f.keeper.reading _ (clean_chain f.keeper.putting delivered_record (first_failed s.records n t))).is;
+  sealed = λ n i o m. sealed_keeps s (sends f.keeper s.records n i o m).result (sends f.keeper s.records n i o m).put (clean_read f.keeper.reading _ (clean_chain (protected s.records n i o m) _ λ y. clean_puts f.keeper.putting (sent_record y) y)).is;
+  came = λ n t. delivery_keeps s t (accepted f.keeper s.records n t).result (accepted f.keeper s.records n t).put (clean_read f.keeper.reading _ (clean_chain (first_failed s.records n t) _ λ y. clean_puts f.keeper.putting (delivered_record y) y)).is;
 }) (line_event line)
 
 pub unchanged : (s : State) (r : Step) → r.sites ≡ s.sites → r.sent ≡ None → r.put ≡ None → after s r ≡ s
@@ -129,7 +100,7 @@ delivery_wires s t (Err d) p = record { sealed = λ x k e. cc; injected = λ k e
 pub line_wires : (s : State) (f : Choices) (line : List ℕ) → Wires s (line_step s f line)
 line_wires s f line = line_covered (λ r. Wires s r) s f (record {
   refused = λ d. record { sealed = λ x k e. cc; injected = λ k e. cc; forwarded = λ t k e. cc };
-  done = λ name. record { sealed = λ x k e. cc; injected = λ k e. cc; forwarded = λ t k e. cc };
+  restarted = λ node. record { sealed = λ x k e. cc; injected = λ k e. cc; forwarded = λ t k e. cc };
   node = λ n plmn. record { sealed = λ x k e. cc; injected = λ k e. cc; forwarded = λ t k e. cc };
   put = put_wires s f.keeper.putting;
   injected = λ t. record { sealed = λ x k e. cc; injected = λ k e. (t, refl, cc); forwarded = λ u k e. cc };

@@ -7,9 +7,9 @@ ghost use Rattle.spec_records.specs.Records.{Record, was_delivered, was_sent};
 ghost use Rattle.spec_script.specs.Choices.{Choices, Meanings, IsBy, unfailing};
 ghost use Rattle.spec_exchange.specs.Calls.{Sealed};
 ghost use Rattle.spec_documents.specs.Lines.{is_blank, Outputs};
-ghost use Rattle.spec_script.specs.Steps.{State, Answer, OnWire, Sends, Forwards, Refuses, after, wire_at, line_step};
+ghost use Rattle.spec_script.specs.Steps.{State, Answer, OnWire, Sends, Forwards, Opens, Refuses, after, wire_at, line_step};
 ghost use Rattle.spec_script.specs.Refusals.{Refusal};
-ghost use Rattle.spec_script.specs.Output.{Answers, Answered, Numbered, answers_text, GivesAnswer, delivers, numbers, has_refusal, is_keeper_refusal, is_outside_refusal, RoseBy, HaveCauses, count_after};
+ghost use Rattle.spec_script.specs.Output.{Answers, Answered, Numbered, answers_text, GivesAnswer, delivers, numbers, has_refusal, is_keeper_refusal, is_outside_refusal, is_ending_refusal, LosesOne, RoseBy, HaveCauses, count_after};
 
 /// In a run each message is delivered at most once, and none that was delivered before it.
 pub fn delivered_at_most_once()
@@ -39,11 +39,13 @@ pub fn records_grow()
         (more : List Record) × (last.records ≡ s.records ++ more) × (length more ≤ length answers) }
 {}
 
-/// A refusal leaves the nodes and the wire as they are, and the records too, but for a failed put that may have kept its record.
+/// A refusal leaves the nodes and the wire as they are, and the records too, but for a failed put that may have kept its record. At most one start waits no longer then, and none but after a failed put or where the sides of a handshake don't agree.
 pub fn refusal_changes_nothing()
-    ensures state { (s : State) (f : Choices) (line : List ℕ) (e : Refusal) → (line_step s f line).answer ≡ Refuses e → is_keeper_refusal e ≡ false → after s (line_step s f line) ≡ s }
+    ensures state { (s : State) (f : Choices) (line : List ℕ) (e : Refusal) → (line_step s f line).answer ≡ Refuses e → is_keeper_refusal e ≡ false → is_ending_refusal e ≡ false → after s (line_step s f line) ≡ s }
     ensures sites { (s : State) (f : Choices) (line : List ℕ) (e : Refusal) → (line_step s f line).answer ≡ Refuses e → (after s (line_step s f line)).sites ≡ s.sites }
     ensures wire { (s : State) (f : Choices) (line : List ℕ) (e : Refusal) → (line_step s f line).answer ≡ Refuses e → (after s (line_step s f line)).wire ≡ s.wire }
+    ensures records { (s : State) (f : Choices) (line : List ℕ) (e : Refusal) → (line_step s f line).answer ≡ Refuses e → is_keeper_refusal e ≡ false → (after s (line_step s f line)).records ≡ s.records }
+    ensures starts { (s : State) (f : Choices) (line : List ℕ) (e : Refusal) → (line_step s f line).answer ≡ Refuses e → LosesOne s.starts (after s (line_step s f line)).starts }
 {}
 
 /// A document goes last on the wire, and the number that is answered is its place there.
@@ -53,6 +55,8 @@ pub fn wire_goes_on()
     ensures injected { (s : State) (f : Choices) (line : List ℕ) (k : ℕ) → (line_step s f line).answer ≡ OnWire k →
         (t : Tree) × ((after s (line_step s f line)).wire ≡ s.wire ++ t ∷ []) × (wire_at (after s (line_step s f line)).wire (pos k) ≡ Some t) }
     ensures forwarded { (s : State) (f : Choices) (line : List ℕ) (t : Tree) (k : ℕ) → (line_step s f line).answer ≡ Forwards t k →
+        ((after s (line_step s f line)).wire ≡ s.wire ++ t ∷ []) × (wire_at (after s (line_step s f line)).wire (pos k) ≡ Some t) }
+    ensures opened { (s : State) (f : Choices) (line : List ℕ) (t : Tree) (k id : ℕ) → (line_step s f line).answer ≡ Opens t k id →
         ((after s (line_step s f line)).wire ≡ s.wire ++ t ∷ []) × (wire_at (after s (line_step s f line)).wire (pos k) ≡ Some t) }
 {}
 
