@@ -4,17 +4,19 @@ use Rattle.spec_messages.specs.Message.{Kind}
 use Rattle.spec_records.specs.Records.{Record}
 use Rattle.spec_exchange.specs.Outside.{Keeper}
 use Rattle.spec_script.specs.Choices.{Choices, Meanings, IsBy}
-use Rattle.spec_exchange.specs.Runs
+use Rattle.spec_exchange.specs.EntryRefusals.{VerifierFailed}
+use Rattle.spec_exchange.specs.AcceptRefusals.{OfEntry}
+use Rattle.spec_exchange.specs.AcceptRuns
 use Rattle.spec_documents.specs.Lines.{lines_of, is_blank}
 use Rattle.spec_handshake.specs.Refusals.{ends_start}
 use Rattle.spec_handshake.specs.Starts.{Start, without_first}
-use Rattle.spec_script.specs.Refusals.{Refusal, OfOutside, OfHandshake, SignerFailed}
+use Rattle.spec_script.specs.Refusals.{Refusal, OfReceiving, OfOutside, OfHandshake, SignerFailed}
 use Rattle.spec_script.specs.Steps.{State, Answer, Sends, Delivers, Refuses, after, line_step}
 use Rattle.spec_script.specs.Answers.{answer_text}
 
 -- in state s the line may have this answer, and then state t is reached
 abbrev pub Answers : Meanings → State → List ℕ → Answer → State → Type 0
-Answers m s line a t = (f : Choices) × IsBy m f × (a ≡ (line_step s f line).answer) × (t ≡ after s (line_step s f line))
+Answers m s line a t = (f : Choices) × IsBy m f × (a ≡ (line_step m.passes s f line).answer) × (t ≡ after s (line_step m.passes s f line))
 
 -- a line's number and its answer
 abbrev pub Numbered : Type 0
@@ -52,18 +54,18 @@ pub record GivesAnswer (m : Meanings) (s : State) (n : ℕ) (line text : List �
 -- ---- what an answer is
 
 -- as the reply of a call
-abbrev pub reply_in : Answer → Runs.Reply
-reply_in (Sends x number) = Runs.Made x
-reply_in (Delivers d) = Runs.Told d
-reply_in _ = Runs.Other
+abbrev pub reply_in : Answer → AcceptRuns.Reply
+reply_in (Sends x number) = AcceptRuns.Made x
+reply_in (Delivers d) = AcceptRuns.Told d
+reply_in _ = AcceptRuns.Other
 
 -- the answer delivers this message
 abbrev pub delivers : List ℕ → ℕ → Kind → ℕ → Numbered → Bool
-delivers node id kind message x = Runs.delivers node id kind message (reply_in x.1)
+delivers node id kind message x = AcceptRuns.delivers node id kind message (reply_in x.1)
 
 -- the answer is a document of this sequence number
 abbrev pub numbers : List ℕ → ℕ → Kind → ℕ → Numbered → Bool
-numbers node id kind seq x = Runs.numbers node id kind seq (reply_in x.1)
+numbers node id kind seq x = AcceptRuns.numbers node id kind seq (reply_in x.1)
 
 abbrev pub has_refusal : (Refusal → Bool) → Answer → Bool
 has_refusal p (Refuses e) = p e
@@ -77,10 +79,15 @@ abbrev pub is_signer_refusal : Refusal → Bool
 is_signer_refusal SignerFailed = true
 is_signer_refusal _ = false
 
--- an answer that only a fault of keeper or signer, or a record that the keeper holds, gives
+abbrev pub is_verifier_refusal : Refusal → Bool
+is_verifier_refusal (OfReceiving (OfEntry number VerifierFailed) report) = true
+is_verifier_refusal _ = false
+
+-- an answer that only a fault of keeper, signer or verifier, or a record that the keeper holds, gives
 abbrev pub is_outside_refusal : Refusal → Bool
 is_outside_refusal (OfOutside fault) = true
 is_outside_refusal SignerFailed = true
+is_outside_refusal (OfReceiving (OfEntry number VerifierFailed) report) = true
 is_outside_refusal _ = false
 
 -- a refusal after which a start may wait no longer

@@ -4,7 +4,7 @@ use Rattle.std.specs.Fmt.{decimal}
 use Rattle.spec_messages.specs.Message.{member_name}
 use Rattle.spec_messages.specs.Limits.{limit_name}
 use Rattle.spec_exchange.specs.Telling.{Telling, bare, detailed}
-use Rattle.spec_exchange.specs.ReceivingRefusals as receiving
+use Rattle.spec_exchange.specs.AcceptRefusals as accepting
 use Rattle.spec_exchange.specs.SendingRefusals as sending
 use Rattle.spec_exchange.specs.Outside.{fault_telling}
 use Rattle.spec_handshake.specs.Refusals as handshake
@@ -27,7 +27,7 @@ telling ContextUsed = bare 44 (codes "CONTEXT_USED")
 telling (BadForm member) = detailed 20 (codes "FORM") member
 telling BadReport = bare 46 (codes "REPORT_FORM")
 telling (OfSending refusal) = sending.telling refusal
-telling (OfReceiving refusal report) = receiving.telling refusal
+telling (OfReceiving refusal report) = accepting.telling refusal
 telling (OfOutside fault) = fault_telling fault
 telling (OfHandshake refusal) = handshake.telling refusal
 telling SignerFailed = bare 36 (codes "SIGNER")

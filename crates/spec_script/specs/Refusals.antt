@@ -3,7 +3,7 @@ use Rattle.std.specs.Prelude.{ℕ, List, Option}
 use Rattle.spec_documents.specs.Tree.{Tree}
 use Rattle.spec_messages.specs.Message.{Member}
 use Rattle.spec_messages.specs.Limits.{Limit}
-use Rattle.spec_exchange.specs.ReceivingRefusals as receiving
+use Rattle.spec_exchange.specs.AcceptRefusals as accepting
 use Rattle.spec_exchange.specs.SendingRefusals as sending
 use Rattle.spec_exchange.specs.Outside.{Fault, Cause, Own, Outside}
 use Rattle.spec_handshake.specs.Refusals as handshake
@@ -36,7 +36,7 @@ pub data Refusal : Type 0 where
   BadReport : Refusal
   -- of sending, of receiving with the document of its report, and of the outside
   OfSending : (refusal : sending.Refusal) → Refusal
-  OfReceiving : (refusal : receiving.Refusal) (report : Option Tree) → Refusal
+  OfReceiving : (refusal : accepting.Refusal) (report : Option Tree) → Refusal
   OfOutside : (fault : Fault) → Refusal
   -- of a call of the handshake
   OfHandshake : (refusal : handshake.Refusal) → Refusal

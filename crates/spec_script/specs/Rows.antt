@@ -1,14 +1,16 @@
 -- Events and states of worked examples.
-use Rattle.std.specs.Prelude.{ℕ, zero, suc, List, [], ◌∷◌, ◌++◌, Option, codes}
+use Rattle.std.specs.Prelude.{ℕ, zero, suc, List, [], ◌∷◌, ◌++◌, Bool, true, Option, Some, None, codes}
 use Rattle.spec_documents.specs.Tree.{Tree, null, words, items, members, object, trees}
 use Rattle.spec_records.specs.Records.{Record, A128Gcm, Opened, Keyed}
 use Rattle.spec_records.specs.RecordRows.{context_with, keys_from}
+use Rattle.spec_exchange.specs.EntryChecks.{Claim, Verifying, by_meaning}
+use Rattle.spec_exchange.specs.Screens.{Passes}
 use Rattle.spec_exchange.specs.Outside.{Choice, Read, BadRecord, Kept, Lost, KeptUntold, no_fault}
 use Rattle.spec_sealing.specs.Jws.{Hs256}
 use Rattle.spec_script.specs.Choices.{Signer, Signs, SignerFails, Choices}
 use Rattle.spec_reports.specs.Report.{Report, IntegrityCheckFailed}
-use Rattle.spec_script.specs.Events.{HandedContext}
-use Rattle.spec_script.specs.Steps.{State}
+use Rattle.spec_script.specs.Events.{HandedContext, Event}
+use Rattle.spec_script.specs.Steps.{State, Step, step}
 
 -- ---- documents
 
@@ -115,14 +117,24 @@ keyed = opened ++ Keyed (codes "A") 161 (keys_from 3) ∷ []
 abbrev pub row_signer : Signer
 row_signer = record { algorithm = Hs256; sign = λ identity input. identity ++ input }
 
+-- a verifier that takes each signature, and one that fails at the first entry
+abbrev pub takes_all : Claim → Bool
+takes_all claim = true
+
+abbrev pub fails_first : Verifying
+fails_first = by_meaning takes_all (Some 1)
+
 abbrev pub by_keeper : Choice → Choices
-by_keeper choice = record { keeper = choice; signer = Signs row_signer }
+by_keeper choice = record { keeper = choice; signer = Signs row_signer; verifier = by_meaning takes_all None }
 
 abbrev pub well : Choices
 well = by_keeper no_fault
 
 abbrev pub unsigned : Choices
-unsigned = record { keeper = no_fault; signer = SignerFails }
+unsigned = record well { signer = SignerFails }
+
+abbrev pub unverified : Choices
+unverified = record well { verifier = fails_first }
 
 abbrev pub lost : Choices
 lost = by_keeper (record { reading = Read; putting = Lost })
@@ -132,3 +144,10 @@ untold = by_keeper (record { reading = Read; putting = KeptUntold })
 
 abbrev pub bad_record : Choices
 bad_record = by_keeper (record { reading = BadRecord 2; putting = Kept })
+
+-- a screen that passes every message
+abbrev pub passes_all : Passes
+passes_all m plmn = true
+
+abbrev pub row_step : State → Choices → Event → Step
+row_step s f e = step passes_all s f e

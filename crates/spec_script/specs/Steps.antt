@@ -8,11 +8,13 @@ use Rattle.spec_messages.specs.PolicyDocument.{policy_of}
 use Rattle.spec_records.specs.Records.{KeySet, Context, Record, Opened, Keyed, record_limit, keys_fit, used, open_context, keys}
 use Rattle.spec_exchange.specs.Chain.{◌>>=◌, unless, or_refused}
 use Rattle.spec_messages.specs.Limits.{full_wire, many_records}
-use Rattle.spec_exchange.specs.ReceivingRefusals as receiving
+use Rattle.spec_exchange.specs.AcceptRefusals as accepting
 use Rattle.spec_exchange.specs.SendingRefusals as sending
 use Rattle.spec_exchange.specs.Outside.{Choice, Cause, Keeper, Journal, Reading, Read, ReadFails, BadRecord, Putting, Kept, Lost, KeptUntold, Outcome, with_put}
 use Rattle.spec_exchange.specs.FirstFailed.{Delivery}
-use Rattle.spec_exchange.specs.Calls.{Sealed, Outgoing, Asks, Replies, accepted, sends}
+use Rattle.spec_exchange.specs.Calls.{Sealed, Outgoing, Asks, Replies, sends}
+use Rattle.spec_exchange.specs.Screens.{Passes}
+use Rattle.spec_exchange.specs.AcceptCalls.{accepted}
 use Rattle.spec_handshake.specs.Documents.{Document, document_tree}
 use Rattle.spec_handshake.specs.Refusals as handshake
 use Rattle.spec_handshake.specs.Starts.{Offer, Start, without_node}
@@ -118,11 +120,11 @@ abbrev pub sends_sealed : State → Outcome sending.Refusal Sealed → Step
 sends_sealed s o = record { answer = sealed_answer (next_number s) o.result; put = o.put; sent = sealed_sent o.result; sites = s.sites; starts = s.starts }
 
 -- a refusal of the document t is told with its report
-abbrev pub delivery_answer : Tree → Result Delivery (Cause receiving.Refusal) → Answer
+abbrev pub delivery_answer : Tree → Result Delivery (Cause accepting.Refusal) → Answer
 delivery_answer t (Ok d) = Delivers d
 delivery_answer t (Err e) = Refuses (of_cause (λ r. OfReceiving r (report_on t r)) e)
 
-abbrev pub delivers : State → Tree → Outcome receiving.Refusal Delivery → Step
+abbrev pub delivers : State → Tree → Outcome accepting.Refusal Delivery → Step
 delivers s t o = record { answer = delivery_answer t o.result; put = o.put; sent = None; sites = s.sites; starts = s.starts }
 
 -- the node's starts are dropped
@@ -257,79 +259,79 @@ keys_up s f node id set = do
 
 -- ---- events
 
--- the step of an event whose checks hold
-abbrev pub checked : State → Choices → Event → Result Step Refusal
-checked s f (AddNode node plmn) = do
+-- the step of an event whose checks hold, with a screen that goes by this rule
+abbrev pub checked : Passes → State → Choices → Event → Result Step Refusal
+checked passes s f (AddNode node plmn) = do
   _ ← new_node s node
   Ok (adds_node s node plmn)
-checked s f (AddContext x) = do
+checked passes s f (AddContext x) = do
   _ ← known_node s x.node
   policy ← policy_to_hold x.policy
   opens s f.keeper (context_with x policy)
-checked s f (AddKeys node id set) = do
+checked passes s f (AddKeys node id set) = do
   _ ← known_node s node
   keys_up s f.keeper node id set
-checked s f (Send node id t answers) = do
+checked passes s f (Send node id t answers) = do
   _ ← known_node s node
   _ ← room_on_wire s
   m ← message_to_send t answers
   Ok (sends_sealed s (sends f.keeper s.records node id m.0 m.1))
-checked s f (Pass ipx number operations) = do
+checked passes s f (Pass ipx number operations) = do
   t ← known_document s number
   _ ← room_on_wire s
   passes_on s f.signer ipx operations t
-checked s f (Inject t) = do
+checked passes s f (Inject t) = do
   _ ← room_on_wire s
   Ok (injects s t)
-checked s f (Alter number ops) = do
+checked passes s f (Alter number ops) = do
   t ← known_document s number
   _ ← room_on_wire s
   u ← altered ops t
   Ok (forwards s u)
-checked s f (Deliver node number) = do
+checked passes s f (Deliver node number) = do
   _ ← known_node s node
   t ← known_document s number
-  Ok (delivers s t (accepted f.keeper s.records node t))
-checked s f (Restart node) = do
+  Ok (delivers s t (accepted passes (record { keeper = f.keeper; verifier = f.verifier }) s.records node t))
+checked passes s f (Restart node) = do
   _ ← known_node s node
   Ok (restarts s node)
-checked s f (Reported node t) = do
+checked passes s f (Reported node t) = do
   _ ← known_node s node
   r ← or_refused (λ none. BadReport) (report_in t)
   Ok (reports s r)
-checked s f (StartWith node peer x) = do
+checked passes s f (StartWith node peer x) = do
   _ ← known_node s node
   _ ← room_on_wire s
   policy ← policy_to_hold x.policy
   Ok (starts_with s f.keeper node peer (offer_of x policy))
-checked s f (AnswerTo node number x) = do
+checked passes s f (AnswerTo node number x) = do
   plmn ← known_node s node
   t ← known_document s number
   _ ← room_on_wire s
   policy ← policy_to_hold x.policy
   Ok (answers_to s f.keeper node plmn (offer_of x policy) t)
-checked s f (FinishBy node number) = do
+checked passes s f (FinishBy node number) = do
   plmn ← known_node s node
   t ← known_document s number
   _ ← room_on_wire s
   Ok (finishes_by s f.keeper node plmn t)
-checked s f (Terminate node id) = do
+checked passes s f (Terminate node id) = do
   _ ← known_node s node
   _ ← room_on_wire s
   Ok (closes s (calls.terminate f.keeper s.records node id))
-checked s f (EndBy node number) = do
+checked passes s f (EndBy node number) = do
   _ ← known_node s node
   t ← known_document s number
   _ ← room_on_wire s
   Ok (closes s (calls.ended f.keeper s.records node t))
 
-abbrev pub step : State → Choices → Event → Step
-step s f e = or_refuses s (checked s f e)
+abbrev pub step : Passes → State → Choices → Event → Step
+step passes s f e = or_refuses s (checked passes s f e)
 
 -- the step of a line, which may be of no event
-abbrev pub step_with : State → Choices → Result Event Refusal → Step
-step_with s f (Ok e) = step s f e
-step_with s f (Err e) = refuses s e
+abbrev pub step_with : Passes → State → Choices → Result Event Refusal → Step
+step_with passes s f (Ok e) = step passes s f e
+step_with passes s f (Err e) = refuses s e
 
-abbrev pub line_step : State → Choices → List ℕ → Step
-line_step s f line = step_with s f (line_event line)
+abbrev pub line_step : Passes → State → Choices → List ℕ → Step
+line_step passes s f line = step_with passes s f (line_event line)

@@ -17,14 +17,15 @@ ghost use Rattle.spec_records.specs.RecordRows.{context_with, keys_from, unfit_k
 ghost use Rattle.spec_exchange.specs.Outside.{Journal, Keeper};
 ghost use Rattle.spec_exchange.specs.Rebuilding.{no_block};
 ghost use Rattle.spec_exchange.specs.ReceivingRefusals.{Form, Integrity, Replay, Reconstruction, InClear, NoRoom};
+ghost use Rattle.spec_exchange.specs.AcceptRefusals.{Receiving};
 ghost use Rattle.spec_exchange.specs.SendingRefusals as sending;
 ghost use Rattle.spec_script.specs.Refusals.{Syntax, BadEvent, NodeUnknown, NodeExists, WireUnknown, Beyond, KeysTwice, ContextNotFound, BadMessage, DeepBody, BadPolicy, ContextUsed, BadForm, BadReport, OfSending, OfReceiving, OfOutside, SignerFailed};
 ghost use Rattle.spec_script.specs.Events.{AddNode, AddContext, AddKeys, Send, Pass, Inject, Alter, Deliver, Restart, Reported, event_of, line_event};
 ghost use Rattle.spec_script.specs.Altering.{altered};
 ghost use Rattle.spec_script.specs.Reports.{report_on};
-ghost use Rattle.spec_script.specs.Steps.{Fine, OnWire, Forwards, Reports, Refuses, refuses, is_full, step, after};
+ghost use Rattle.spec_script.specs.Steps.{Fine, OnWire, Forwards, Reports, Refuses, refuses, is_full, after};
 ghost use Rattle.spec_script.specs.Answers.{answer_text};
-ghost use Rattle.spec_script.specs.Rows.{of_members, named, node_fields, policy_document, context_fields, peer_ipx_field, handed_with, key_digits, keys_fields, patch_row, request_document, nested, report_fields, row_report, row_signer, well, unsigned, holding, wired, opened, keyed, lost, untold, bad_record};
+ghost use Rattle.spec_script.specs.Rows.{of_members, named, node_fields, policy_document, context_fields, peer_ipx_field, handed_with, key_digits, keys_fields, patch_row, request_document, nested, report_fields, row_report, row_signer, well, unsigned, holding, wired, opened, keyed, lost, untold, bad_record, row_step};
 
 /// Each event is an object that names it; the first member that is missing or has not its form is told.
 pub fn event_rows()
@@ -60,95 +61,95 @@ pub fn line_rows()
 
 /// Nodes are known once they are added, and documents once they are on the wire.
 pub fn node_rows()
-    ensures fresh { (step (holding []) well (AddNode (codes "C") (codes "00103"))).answer ≡ Fine (codes "node") }
-    ensures again { (step (holding []) well (AddNode (codes "A") (codes "00109"))).answer ≡ Refuses NodeExists }
-    ensures known { (step (after (holding []) (step (holding []) well (AddNode (codes "C") (codes "00103")))) well (Restart (codes "C"))).answer ≡ Fine (codes "restart") }
-    ensures unknown { (step (holding []) well (Restart (codes "C"))).answer ≡ Refuses NodeUnknown }
-    ensures second { (step (holding []) well (Inject null)).answer ≡ OnWire 2 }
-    ensures wire { (step (holding []) well (Deliver (codes "B") (pos 9))).answer ≡ Refuses WireUnknown }
-    ensures node_first { (step (holding []) well (Deliver (codes "C") (pos 9))).answer ≡ Refuses NodeUnknown }
-    ensures from_one { (step (holding []) well (Deliver (codes "B") (pos 0))).answer ≡ Refuses WireUnknown }
-    ensures below { (step (holding []) well (Deliver (codes "B") (negsuc 0))).answer ≡ Refuses WireUnknown }
-    ensures first { (step (holding []) well (Deliver (codes "B") (pos 1))).answer ≡ Refuses (OfReceiving (Form (codes "document")) None) }
+    ensures fresh { (row_step (holding []) well (AddNode (codes "C") (codes "00103"))).answer ≡ Fine (codes "node") }
+    ensures again { (row_step (holding []) well (AddNode (codes "A") (codes "00109"))).answer ≡ Refuses NodeExists }
+    ensures known { (row_step (after (holding []) (row_step (holding []) well (AddNode (codes "C") (codes "00103")))) well (Restart (codes "C"))).answer ≡ Fine (codes "restart") }
+    ensures unknown { (row_step (holding []) well (Restart (codes "C"))).answer ≡ Refuses NodeUnknown }
+    ensures second { (row_step (holding []) well (Inject null)).answer ≡ OnWire 2 }
+    ensures wire { (row_step (holding []) well (Deliver (codes "B") (pos 9))).answer ≡ Refuses WireUnknown }
+    ensures node_first { (row_step (holding []) well (Deliver (codes "C") (pos 9))).answer ≡ Refuses NodeUnknown }
+    ensures from_one { (row_step (holding []) well (Deliver (codes "B") (pos 0))).answer ≡ Refuses WireUnknown }
+    ensures below { (row_step (holding []) well (Deliver (codes "B") (negsuc 0))).answer ≡ Refuses WireUnknown }
+    ensures first { (row_step (holding []) well (Deliver (codes "B") (pos 1))).answer ≡ Refuses (OfReceiving (Receiving (Form (codes "document"))) None) }
 {}
 
 /// A context is handed in once, and so are its keys; the keeper's faults come before what the records tell.
 pub fn context_rows()
-    ensures opened { (step (holding []) well (AddContext (handed_with policy_document))).answer ≡ Fine (codes "context") }
-    ensures used { (step (holding opened) well (AddContext (handed_with policy_document))).answer ≡ Refuses ContextUsed }
-    ensures policy { (step (holding opened) bad_record (AddContext (handed_with null))).answer ≡ Refuses (BadPolicy 0) }
-    ensures journal { (step (holding opened) bad_record (AddContext (handed_with policy_document))).answer ≡ Refuses (OfOutside (Journal 2)) }
-    ensures keys { step (holding opened) well (AddKeys (codes "A") 161 (keys_from 3)) ≡ record { answer = Fine (codes "keys"); put = Some (Keyed (codes "A") 161 (keys_from 3)); sent = None; sites = (holding []).sites } }
-    ensures twice { (step (holding keyed) well (AddKeys (codes "A") 161 (keys_from 3))).answer ≡ Refuses KeysTwice }
-    ensures twice_unfit { (step (holding keyed) well (AddKeys (codes "A") 161 unfit_keys)).answer ≡ Refuses KeysTwice }
-    ensures unfit { (step (holding opened) well (AddKeys (codes "A") 161 unfit_keys)).answer ≡ Refuses (BadEvent (codes "key")) }
-    ensures none { (step (holding opened) well (AddKeys (codes "B") 161 (keys_from 3))).answer ≡ Refuses ContextNotFound }
-    ensures untold { step (holding opened) untold (AddKeys (codes "A") 161 (keys_from 3)) ≡ record { answer = Refuses (OfOutside Keeper); put = Some (Keyed (codes "A") 161 (keys_from 3)); sent = None; sites = (holding []).sites } }
+    ensures opened { (row_step (holding []) well (AddContext (handed_with policy_document))).answer ≡ Fine (codes "context") }
+    ensures used { (row_step (holding opened) well (AddContext (handed_with policy_document))).answer ≡ Refuses ContextUsed }
+    ensures policy { (row_step (holding opened) bad_record (AddContext (handed_with null))).answer ≡ Refuses (BadPolicy 0) }
+    ensures journal { (row_step (holding opened) bad_record (AddContext (handed_with policy_document))).answer ≡ Refuses (OfOutside (Journal 2)) }
+    ensures keys { row_step (holding opened) well (AddKeys (codes "A") 161 (keys_from 3)) ≡ record { answer = Fine (codes "keys"); put = Some (Keyed (codes "A") 161 (keys_from 3)); sent = None; sites = (holding []).sites } }
+    ensures twice { (row_step (holding keyed) well (AddKeys (codes "A") 161 (keys_from 3))).answer ≡ Refuses KeysTwice }
+    ensures twice_unfit { (row_step (holding keyed) well (AddKeys (codes "A") 161 unfit_keys)).answer ≡ Refuses KeysTwice }
+    ensures unfit { (row_step (holding opened) well (AddKeys (codes "A") 161 unfit_keys)).answer ≡ Refuses (BadEvent (codes "key")) }
+    ensures none { (row_step (holding opened) well (AddKeys (codes "B") 161 (keys_from 3))).answer ≡ Refuses ContextNotFound }
+    ensures untold { row_step (holding opened) untold (AddKeys (codes "A") 161 (keys_from 3)) ≡ record { answer = Refuses (OfOutside Keeper); put = Some (Keyed (codes "A") 161 (keys_from 3)); sent = None; sites = (holding []).sites } }
 {}
 
 /// Where no record more may be held, this is told before the keeper is asked, and after what the records tell.
 pub fn room_rows()
-    ensures new_context { (records : List Record) → used (codes "A") 161 records ≡ false → record_limit ≤ length records → (step (holding records) lost (AddContext (handed_with policy_document))).answer ≡ Refuses (Beyond many_records) }
-    ensures used_id { (records : List Record) → used (codes "A") 161 records ≡ true → record_limit ≤ length records → (step (holding records) lost (AddContext (handed_with policy_document))).answer ≡ Refuses ContextUsed }
-    ensures new_keys { (records : List Record) → open_context (codes "A") 161 records ≡ Some (context_with (codes "B")) → keys (codes "A") 161 records ≡ None → record_limit ≤ length records → (step (holding records) lost (AddKeys (codes "A") 161 (keys_from 3))).answer ≡ Refuses (Beyond many_records) }
-    ensures kept { (records : List Record) → used (codes "A") 161 records ≡ false → length records < record_limit → (step (holding records) lost (AddContext (handed_with policy_document))).answer ≡ Refuses (OfOutside Keeper) }
+    ensures new_context { (records : List Record) → used (codes "A") 161 records ≡ false → record_limit ≤ length records → (row_step (holding records) lost (AddContext (handed_with policy_document))).answer ≡ Refuses (Beyond many_records) }
+    ensures used_id { (records : List Record) → used (codes "A") 161 records ≡ true → record_limit ≤ length records → (row_step (holding records) lost (AddContext (handed_with policy_document))).answer ≡ Refuses ContextUsed }
+    ensures new_keys { (records : List Record) → open_context (codes "A") 161 records ≡ Some (context_with (codes "B")) → keys (codes "A") 161 records ≡ None → record_limit ≤ length records → (row_step (holding records) lost (AddKeys (codes "A") 161 (keys_from 3))).answer ≡ Refuses (Beyond many_records) }
+    ensures kept { (records : List Record) → used (codes "A") 161 records ≡ false → length records < record_limit → (row_step (holding records) lost (AddContext (handed_with policy_document))).answer ≡ Refuses (OfOutside Keeper) }
     ensures text { answer_text 9 (Refuses (Beyond many_records)) ≡ codes "{\"detail\":\"records\",\"line\":9,\"name\":\"LIMIT\",\"refused\":7}" }
 {}
 
 /// A request answers none, and a response answers one.
 pub fn message_rows()
-    ensures response { (step (holding []) well (Send (codes "A") 161 (named [] ((codes "statusLine", words (codes "201")) ∷ [])) (Some 7))).answer ≡ Refuses (OfSending sending.ContextNotFound) }
-    ensures alone { (step (holding []) well (Send (codes "A") 161 (named [] ((codes "statusLine", words (codes "201")) ∷ [])) None)).answer ≡ Refuses (BadEvent (codes "answers")) }
-    ensures reply { (step (holding keyed) well (Send (codes "A") 161 (named [] ((codes "statusLine", words (codes "201")) ∷ [])) (Some 7))).answer ≡ Refuses (OfSending sending.NoRequest) }
-    ensures status { (step (holding []) well (Send (codes "A") 161 (named [] ((codes "statusLine", null) ∷ [])) None)).answer ≡ Refuses (BadMessage status_line) }
-    ensures message { (step (holding []) well (Send (codes "A") 161 (request_document ((codes "headers", null) ∷ [])) (Some 7))).answer ≡ Refuses (BadMessage headers) }
-    ensures deep { (step (holding []) well (Send (codes "A") 161 (request_document ((codes "body", nested 65) ∷ [])) (Some 7))).answer ≡ Refuses DeepBody }
-    ensures answers { (step (holding []) well (Send (codes "A") 161 (request_document ((codes "body", nested 64) ∷ [])) (Some 7))).answer ≡ Refuses (BadEvent (codes "answers")) }
-    ensures context { (step (holding []) well (Send (codes "A") 161 (request_document ((codes "body", nested 64) ∷ [])) None)).answer ≡ Refuses (OfSending sending.ContextNotFound) }
+    ensures response { (row_step (holding []) well (Send (codes "A") 161 (named [] ((codes "statusLine", words (codes "201")) ∷ [])) (Some 7))).answer ≡ Refuses (OfSending sending.ContextNotFound) }
+    ensures alone { (row_step (holding []) well (Send (codes "A") 161 (named [] ((codes "statusLine", words (codes "201")) ∷ [])) None)).answer ≡ Refuses (BadEvent (codes "answers")) }
+    ensures reply { (row_step (holding keyed) well (Send (codes "A") 161 (named [] ((codes "statusLine", words (codes "201")) ∷ [])) (Some 7))).answer ≡ Refuses (OfSending sending.NoRequest) }
+    ensures status { (row_step (holding []) well (Send (codes "A") 161 (named [] ((codes "statusLine", null) ∷ [])) None)).answer ≡ Refuses (BadMessage status_line) }
+    ensures message { (row_step (holding []) well (Send (codes "A") 161 (request_document ((codes "headers", null) ∷ [])) (Some 7))).answer ≡ Refuses (BadMessage headers) }
+    ensures deep { (row_step (holding []) well (Send (codes "A") 161 (request_document ((codes "body", nested 65) ∷ [])) (Some 7))).answer ≡ Refuses DeepBody }
+    ensures answers { (row_step (holding []) well (Send (codes "A") 161 (request_document ((codes "body", nested 64) ∷ [])) (Some 7))).answer ≡ Refuses (BadEvent (codes "answers")) }
+    ensures context { (row_step (holding []) well (Send (codes "A") 161 (request_document ((codes "body", nested 64) ∷ [])) None)).answer ≡ Refuses (OfSending sending.ContextNotFound) }
 {}
 
 /// A document is passed on with an entry more: its form comes first, and then the signer is asked.
 pub fn pass_rows()
-    ensures unknown { (step (wired []) well (Pass (codes "ipx-a") (pos 1) null)).answer ≡ Refuses WireUnknown }
-    ensures form { (step (wired (null ∷ [])) well (Pass (codes "ipx-a") (pos 1) null)).answer ≡ Refuses (BadForm (codes "document")) }
-    ensures form_first { (step (wired (null ∷ [])) unsigned (Pass (codes "ipx-a") (pos 1) null)).answer ≡ Refuses (BadForm (codes "document")) }
-    ensures passed { (t d : Tree) → is_full (t ∷ []) ≡ false → passed Hs256 (codes "ipx-a") null (row_signer.sign (codes "ipx-a")) t ≡ Ok d → (step (wired (t ∷ [])) well (Pass (codes "ipx-a") (pos 1) null)).answer ≡ Forwards d 2 }
-    ensures signer { (t : Tree) (parts : Received) → is_full (t ∷ []) ≡ false → with_room t ≡ Ok parts → step (wired (t ∷ [])) unsigned (Pass (codes "ipx-a") (pos 1) null) ≡ refuses (wired (t ∷ [])) SignerFailed }
+    ensures unknown { (row_step (wired []) well (Pass (codes "ipx-a") (pos 1) null)).answer ≡ Refuses WireUnknown }
+    ensures form { (row_step (wired (null ∷ [])) well (Pass (codes "ipx-a") (pos 1) null)).answer ≡ Refuses (BadForm (codes "document")) }
+    ensures form_first { (row_step (wired (null ∷ [])) unsigned (Pass (codes "ipx-a") (pos 1) null)).answer ≡ Refuses (BadForm (codes "document")) }
+    ensures passed { (t d : Tree) → is_full (t ∷ []) ≡ false → passed Hs256 (codes "ipx-a") null (row_signer.sign (codes "ipx-a")) t ≡ Ok d → (row_step (wired (t ∷ [])) well (Pass (codes "ipx-a") (pos 1) null)).answer ≡ Forwards d 2 }
+    ensures signer { (t : Tree) (parts : Received) → is_full (t ∷ []) ≡ false → with_room t ≡ Ok parts → row_step (wired (t ∷ [])) unsigned (Pass (codes "ipx-a") (pos 1) null) ≡ refuses (wired (t ∷ [])) SignerFailed }
 {}
 
 /// Each operation must succeed, and leave a document that is neither too deep nor too long.
 pub fn alter_rows()
-    ensures unknown { (step (wired []) well (Alter (pos 1) [])).answer ≡ Refuses WireUnknown }
-    ensures same { (step (wired (null ∷ [])) well (Alter (pos 1) [])).answer ≡ Forwards null 2 }
-    ensures replaced { (step (wired (null ∷ [])) well (Alter (pos 1) (replace [] (words (codes "x")) ∷ []))).answer ≡ Forwards (words (codes "x")) 2 }
-    ensures missing { (step (wired (null ∷ [])) well (Alter (pos 1) (remove (codes "none" ∷ []) ∷ []))).answer ≡ Refuses (BadEvent (codes "operations")) }
-    ensures second { (step (wired (null ∷ [])) well (Alter (pos 1) (replace [] (words (codes "x")) ∷ test [] null ∷ []))).answer ≡ Refuses (BadEvent (codes "operations")) }
-    ensures deep { (step (wired (null ∷ [])) well (Alter (pos 1) (replace [] (nested 127) ∷ []))).answer ≡ Refuses (BadEvent (codes "operations")) }
-    ensures less_deep { (step (wired (null ∷ [])) well (Alter (pos 1) (replace [] (nested 126) ∷ []))).answer ≡ Forwards (nested 126) 2 }
+    ensures unknown { (row_step (wired []) well (Alter (pos 1) [])).answer ≡ Refuses WireUnknown }
+    ensures same { (row_step (wired (null ∷ [])) well (Alter (pos 1) [])).answer ≡ Forwards null 2 }
+    ensures replaced { (row_step (wired (null ∷ [])) well (Alter (pos 1) (replace [] (words (codes "x")) ∷ []))).answer ≡ Forwards (words (codes "x")) 2 }
+    ensures missing { (row_step (wired (null ∷ [])) well (Alter (pos 1) (remove (codes "none" ∷ []) ∷ []))).answer ≡ Refuses (BadEvent (codes "operations")) }
+    ensures second { (row_step (wired (null ∷ [])) well (Alter (pos 1) (replace [] (words (codes "x")) ∷ test [] null ∷ []))).answer ≡ Refuses (BadEvent (codes "operations")) }
+    ensures deep { (row_step (wired (null ∷ [])) well (Alter (pos 1) (replace [] (nested 127) ∷ []))).answer ≡ Refuses (BadEvent (codes "operations")) }
+    ensures less_deep { (row_step (wired (null ∷ [])) well (Alter (pos 1) (replace [] (nested 126) ∷ []))).answer ≡ Forwards (nested 126) 2 }
     ensures long { (op : Op) (t u : Tree) → patched t op ≡ Ok u → nat_lt 126 (depth u) ≡ false → nat_lt 16777216 (length (compact_text u)) ≡ true → altered (op ∷ []) t ≡ Err (Beyond long_document) }
 {}
 
 /// Nothing goes on a wire that is full: it holds 134,217,728 bytes or 1,000,000 documents. This is told behind the document's number, and before a document's or a message's form.
 pub fn full_rows()
     ensures bytes { is_full (null ∷ []) ≡ false }
-    ensures injected { (ts : List Tree) → is_full ts ≡ true → (step (wired ts) well (Inject null)).answer ≡ Refuses (Beyond full_wire) }
-    ensures passed { (ts : List Tree) → is_full (null ∷ ts) ≡ true → (step (wired (null ∷ ts)) well (Pass (codes "ipx-a") (pos 1) null)).answer ≡ Refuses (Beyond full_wire) }
-    ensures altered { (ts : List Tree) → is_full (null ∷ ts) ≡ true → (step (wired (null ∷ ts)) well (Alter (pos 1) (remove [] ∷ []))).answer ≡ Refuses (Beyond full_wire) }
-    ensures sent { (ts : List Tree) → is_full ts ≡ true → (step (wired ts) well (Send (codes "A") 161 null None)).answer ≡ Refuses (Beyond full_wire) }
-    ensures sender { (ts : List Tree) → is_full ts ≡ true → (step (wired ts) well (Send (codes "C") 161 null None)).answer ≡ Refuses NodeUnknown }
+    ensures injected { (ts : List Tree) → is_full ts ≡ true → (row_step (wired ts) well (Inject null)).answer ≡ Refuses (Beyond full_wire) }
+    ensures passed { (ts : List Tree) → is_full (null ∷ ts) ≡ true → (row_step (wired (null ∷ ts)) well (Pass (codes "ipx-a") (pos 1) null)).answer ≡ Refuses (Beyond full_wire) }
+    ensures altered { (ts : List Tree) → is_full (null ∷ ts) ≡ true → (row_step (wired (null ∷ ts)) well (Alter (pos 1) (remove [] ∷ []))).answer ≡ Refuses (Beyond full_wire) }
+    ensures sent { (ts : List Tree) → is_full ts ≡ true → (row_step (wired ts) well (Send (codes "A") 161 null None)).answer ≡ Refuses (Beyond full_wire) }
+    ensures sender { (ts : List Tree) → is_full ts ≡ true → (row_step (wired ts) well (Send (codes "C") 161 null None)).answer ≡ Refuses NodeUnknown }
     ensures text { answer_text 9 (Refuses (Beyond full_wire)) ≡ codes "{\"detail\":\"wire\",\"line\":9,\"name\":\"LIMIT\",\"refused\":7}" }
 {}
 
 /// A report is read, and a refused delivery has the report of the document's ids.
 pub fn report_rows()
-    ensures reported { (step (holding []) well (Reported (codes "A") (of_members report_fields))).answer ≡ Reports (row_report None) }
-    ensures none { (step (holding []) well (Reported (codes "A") null)).answer ≡ Refuses BadReport }
-    ensures node_first { (step (holding []) well (Reported (codes "C") null)).answer ≡ Refuses NodeUnknown }
-    ensures made { (t : Tree) (parts : Received) → received t ≡ Ok parts → parts.context ≡ 177 → parts.message ≡ 0 → report_on t Integrity ≡ Some (of_members report_fields) }
-    ensures room { (t : Tree) (parts : Received) → received t ≡ Ok parts → report_on t NoRoom ≡ None }
+    ensures reported { (row_step (holding []) well (Reported (codes "A") (of_members report_fields))).answer ≡ Reports (row_report None) }
+    ensures none { (row_step (holding []) well (Reported (codes "A") null)).answer ≡ Refuses BadReport }
+    ensures node_first { (row_step (holding []) well (Reported (codes "C") null)).answer ≡ Refuses NodeUnknown }
+    ensures made { (t : Tree) (parts : Received) → received t ≡ Ok parts → parts.context ≡ 177 → parts.message ≡ 0 → report_on t (Receiving Integrity) ≡ Some (of_members report_fields) }
+    ensures room { (t : Tree) (parts : Received) → received t ≡ Ok parts → report_on t (Receiving NoRoom) ≡ None }
     ensures text { answer_text 12 (Reports (row_report None)) ≡ codes "{\"context\":\"00000000000000b1\",\"error\":\"INTEGRITY_CHECK_FAILED\",\"line\":12,\"message\":\"0000000000000000\"}" }
     ensures entry { answer_text 12 (Reports (row_report (Some (codes "ipx-a")))) ≡ codes "{\"context\":\"00000000000000b1\",\"entry\":\"ipx-a\",\"error\":\"INTEGRITY_CHECK_FAILED\",\"line\":12,\"message\":\"0000000000000000\"}" }
-    ensures refused { answer_text 9 (Refuses (OfReceiving Integrity (Some (of_members report_fields)))) ≡ codes "{\"line\":9,\"name\":\"INTEGRITY\",\"refused\":24,\"report\":{\"n32fContextId\":\"00000000000000b1\",\"n32fErrorType\":\"INTEGRITY_CHECK_FAILED\",\"n32fMessageId\":\"0000000000000000\"}}" }
+    ensures refused { answer_text 9 (Refuses (OfReceiving (Receiving Integrity) (Some (of_members report_fields)))) ≡ codes "{\"line\":9,\"name\":\"INTEGRITY\",\"refused\":24,\"report\":{\"n32fContextId\":\"00000000000000b1\",\"n32fErrorType\":\"INTEGRITY_CHECK_FAILED\",\"n32fMessageId\":\"0000000000000000\"}}" }
 {}
 
 /// The texts of answers.
@@ -157,9 +158,9 @@ pub fn text_rows()
     ensures wire { answer_text 7 (OnWire 2) ≡ codes "{\"line\":7,\"wire\":2}" }
     ensures fly { answer_text 7 (Refuses (BadEvent (codes "do"))) ≡ codes "{\"detail\":\"do\",\"line\":7,\"name\":\"EVENT\",\"refused\":3}" }
     ensures spent { answer_text 8 (Refuses (OfSending sending.SeqSpent)) ≡ codes "{\"line\":8,\"name\":\"SEQ_SPENT\",\"refused\":12}" }
-    ensures replay { answer_text 9 (Refuses (OfReceiving (Replay 5) None)) ≡ codes "{\"detail\":\"5\",\"line\":9,\"name\":\"REPLAY\",\"refused\":25}" }
+    ensures replay { answer_text 9 (Refuses (OfReceiving (Receiving (Replay 5)) None)) ≡ codes "{\"detail\":\"5\",\"line\":9,\"name\":\"REPLAY\",\"refused\":25}" }
     ensures message { answer_text 10 (Refuses (BadMessage method)) ≡ codes "{\"detail\":\"method\",\"line\":10,\"name\":\"MESSAGE\",\"refused\":13}" }
-    ensures overlap { answer_text 11 (Refuses (OfReceiving (Reconstruction (no_block (block.overlap 2))) None)) ≡ codes "{\"detail\":\"OVERLAP 2\",\"line\":11,\"name\":\"RECONSTRUCTION\",\"refused\":26}" }
-    ensures bad_hole { answer_text 12 (Refuses (OfReceiving (Reconstruction (no_block (block.bad_holes (hole.bad_hole (record { pointer = codes "requestLine" ∷ codes "path" ∷ []; part = Some 3 }))))) None)) ≡ codes "{\"detail\":\"BAD_HOLE /requestLine/path#3\",\"line\":12,\"name\":\"RECONSTRUCTION\",\"refused\":26}" }
-    ensures clear { answer_text 13 (Refuses (OfReceiving (InClear (body_at (codes "supiOrSuci" ∷ []))) None)) ≡ codes "{\"detail\":\"body:/supiOrSuci\",\"line\":13,\"name\":\"POLICY\",\"refused\":27}" }
+    ensures overlap { answer_text 11 (Refuses (OfReceiving (Receiving (Reconstruction (no_block (block.overlap 2)))) None)) ≡ codes "{\"detail\":\"OVERLAP 2\",\"line\":11,\"name\":\"RECONSTRUCTION\",\"refused\":26}" }
+    ensures bad_hole { answer_text 12 (Refuses (OfReceiving (Receiving (Reconstruction (no_block (block.bad_holes (hole.bad_hole (record { pointer = codes "requestLine" ∷ codes "path" ∷ []; part = Some 3 })))))) None)) ≡ codes "{\"detail\":\"BAD_HOLE /requestLine/path#3\",\"line\":12,\"name\":\"RECONSTRUCTION\",\"refused\":26}" }
+    ensures clear { answer_text 13 (Refuses (OfReceiving (Receiving (InClear (body_at (codes "supiOrSuci" ∷ [])))) None)) ≡ codes "{\"detail\":\"body:/supiOrSuci\",\"line\":13,\"name\":\"POLICY\",\"refused\":27}" }
 {}

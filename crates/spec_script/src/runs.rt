@@ -6,6 +6,7 @@ ghost use Rattle.spec_messages.specs.Message.{Kind};
 ghost use Rattle.spec_records.specs.Records.{Record, was_delivered, was_sent};
 ghost use Rattle.spec_script.specs.Choices.{Choices, Meanings, IsBy, unfailing};
 ghost use Rattle.spec_exchange.specs.Calls.{Sealed};
+ghost use Rattle.spec_exchange.specs.Screens.{Passes};
 ghost use Rattle.spec_documents.specs.Lines.{is_blank, Outputs};
 ghost use Rattle.spec_script.specs.Steps.{State, Answer, OnWire, Sends, Forwards, Opens, Refuses, after, wire_at, line_step};
 ghost use Rattle.spec_script.specs.Refusals.{Refusal};
@@ -27,10 +28,10 @@ pub fn numbered_once()
         (node : List ℕ) (id : ℕ) (kind : Kind) (seq : ℕ) → was_sent node id kind seq s.records ≡ true → count_by (numbers node id kind seq) answers ≡ 0 }
 {}
 
-/// Where neither a fault of keeper or signer nor a bad record is answered, the answer and the state after it are those without faults.
+/// Where neither a fault of keeper, signer or verifier nor a bad record is answered, the answer and the state after it are those without faults.
 pub fn answers_determined()
-    ensures { (m : Meanings) (s : State) (f : Choices) → IsBy m f → (line : List ℕ) → has_refusal is_outside_refusal (line_step s f line).answer ≡ false →
-        line_step s f line ≡ line_step s (unfailing m) line }
+    ensures { (m : Meanings) (s : State) (f : Choices) → IsBy m f → (line : List ℕ) → has_refusal is_outside_refusal (line_step m.passes s f line).answer ≡ false →
+        line_step m.passes s f line ≡ line_step m.passes s (unfailing m) line }
 {}
 
 /// The records of a run are those that it began with and more, at most one for each answer.
@@ -41,23 +42,23 @@ pub fn records_grow()
 
 /// A refusal leaves the nodes and the wire as they are, and the records too, but for a failed put that may have kept its record. At most one start waits no longer then, and none but after a failed put or where the sides of a handshake don't agree.
 pub fn refusal_changes_nothing()
-    ensures state { (s : State) (f : Choices) (line : List ℕ) (e : Refusal) → (line_step s f line).answer ≡ Refuses e → is_keeper_refusal e ≡ false → is_ending_refusal e ≡ false → after s (line_step s f line) ≡ s }
-    ensures sites { (s : State) (f : Choices) (line : List ℕ) (e : Refusal) → (line_step s f line).answer ≡ Refuses e → (after s (line_step s f line)).sites ≡ s.sites }
-    ensures wire { (s : State) (f : Choices) (line : List ℕ) (e : Refusal) → (line_step s f line).answer ≡ Refuses e → (after s (line_step s f line)).wire ≡ s.wire }
-    ensures records { (s : State) (f : Choices) (line : List ℕ) (e : Refusal) → (line_step s f line).answer ≡ Refuses e → is_keeper_refusal e ≡ false → (after s (line_step s f line)).records ≡ s.records }
-    ensures starts { (s : State) (f : Choices) (line : List ℕ) (e : Refusal) → (line_step s f line).answer ≡ Refuses e → LosesOne s.starts (after s (line_step s f line)).starts }
+    ensures state { (passes : Passes) (s : State) (f : Choices) (line : List ℕ) (e : Refusal) → (line_step passes s f line).answer ≡ Refuses e → is_keeper_refusal e ≡ false → is_ending_refusal e ≡ false → after s (line_step passes s f line) ≡ s }
+    ensures sites { (passes : Passes) (s : State) (f : Choices) (line : List ℕ) (e : Refusal) → (line_step passes s f line).answer ≡ Refuses e → (after s (line_step passes s f line)).sites ≡ s.sites }
+    ensures wire { (passes : Passes) (s : State) (f : Choices) (line : List ℕ) (e : Refusal) → (line_step passes s f line).answer ≡ Refuses e → (after s (line_step passes s f line)).wire ≡ s.wire }
+    ensures records { (passes : Passes) (s : State) (f : Choices) (line : List ℕ) (e : Refusal) → (line_step passes s f line).answer ≡ Refuses e → is_keeper_refusal e ≡ false → (after s (line_step passes s f line)).records ≡ s.records }
+    ensures starts { (passes : Passes) (s : State) (f : Choices) (line : List ℕ) (e : Refusal) → (line_step passes s f line).answer ≡ Refuses e → LosesOne s.starts (after s (line_step passes s f line)).starts }
 {}
 
 /// A document goes last on the wire, and the number that is answered is its place there.
 pub fn wire_goes_on()
-    ensures sent { (s : State) (f : Choices) (line : List ℕ) (x : Sealed) (k : ℕ) → (line_step s f line).answer ≡ Sends x k →
-        ((after s (line_step s f line)).wire ≡ s.wire ++ x.document ∷ []) × (wire_at (after s (line_step s f line)).wire (pos k) ≡ Some x.document) }
-    ensures injected { (s : State) (f : Choices) (line : List ℕ) (k : ℕ) → (line_step s f line).answer ≡ OnWire k →
-        (t : Tree) × ((after s (line_step s f line)).wire ≡ s.wire ++ t ∷ []) × (wire_at (after s (line_step s f line)).wire (pos k) ≡ Some t) }
-    ensures forwarded { (s : State) (f : Choices) (line : List ℕ) (t : Tree) (k : ℕ) → (line_step s f line).answer ≡ Forwards t k →
-        ((after s (line_step s f line)).wire ≡ s.wire ++ t ∷ []) × (wire_at (after s (line_step s f line)).wire (pos k) ≡ Some t) }
-    ensures opened { (s : State) (f : Choices) (line : List ℕ) (t : Tree) (k id : ℕ) → (line_step s f line).answer ≡ Opens t k id →
-        ((after s (line_step s f line)).wire ≡ s.wire ++ t ∷ []) × (wire_at (after s (line_step s f line)).wire (pos k) ≡ Some t) }
+    ensures sent { (passes : Passes) (s : State) (f : Choices) (line : List ℕ) (x : Sealed) (k : ℕ) → (line_step passes s f line).answer ≡ Sends x k →
+        ((after s (line_step passes s f line)).wire ≡ s.wire ++ x.document ∷ []) × (wire_at (after s (line_step passes s f line)).wire (pos k) ≡ Some x.document) }
+    ensures injected { (passes : Passes) (s : State) (f : Choices) (line : List ℕ) (k : ℕ) → (line_step passes s f line).answer ≡ OnWire k →
+        (t : Tree) × ((after s (line_step passes s f line)).wire ≡ s.wire ++ t ∷ []) × (wire_at (after s (line_step passes s f line)).wire (pos k) ≡ Some t) }
+    ensures forwarded { (passes : Passes) (s : State) (f : Choices) (line : List ℕ) (t : Tree) (k : ℕ) → (line_step passes s f line).answer ≡ Forwards t k →
+        ((after s (line_step passes s f line)).wire ≡ s.wire ++ t ∷ []) × (wire_at (after s (line_step passes s f line)).wire (pos k) ≡ Some t) }
+    ensures opened { (passes : Passes) (s : State) (f : Choices) (line : List ℕ) (t : Tree) (k id : ℕ) → (line_step passes s f line).answer ≡ Opens t k id →
+        ((after s (line_step passes s f line)).wire ≡ s.wire ++ t ∷ []) × (wire_at (after s (line_step passes s f line)).wire (pos k) ≡ Some t) }
 {}
 
 /// At most as many answers are such faults as their count rose by.
