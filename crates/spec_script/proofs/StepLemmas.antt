@@ -1,5 +1,5 @@
 -- Steps by their parts: what holds of a refusal and of what follows the checks holds of the event.
-use Rattle.std.proofs.Common.{ℕ, List, Result, Ok, Err}
+use Rattle.std.proofs.Common.{ℕ, List, Option, Result, Ok, Err}
 use Rattle.spec_documents.specs.Tree.{Tree}
 use Rattle.spec_messages.specs.Message.{Message}
 use Rattle.spec_records.specs.Records.{KeySet, Context, Record}

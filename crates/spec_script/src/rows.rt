@@ -79,12 +79,12 @@ pub fn context_rows()
     ensures used { (row_step (holding opened) well (AddContext (handed_with policy_document))).answer ≡ Refuses ContextUsed }
     ensures policy { (row_step (holding opened) bad_record (AddContext (handed_with null))).answer ≡ Refuses (BadPolicy 0) }
     ensures journal { (row_step (holding opened) bad_record (AddContext (handed_with policy_document))).answer ≡ Refuses (OfOutside (Journal 2)) }
-    ensures keys { row_step (holding opened) well (AddKeys (codes "A") 161 (keys_from 3)) ≡ record { answer = Fine (codes "keys"); put = Some (Keyed (codes "A") 161 (keys_from 3)); sent = None; sites = (holding []).sites } }
+    ensures keys { row_step (holding opened) well (AddKeys (codes "A") 161 (keys_from 3)) ≡ record { answer = Fine (codes "keys"); put = Some (Keyed (codes "A") 161 (keys_from 3)); sent = None; sites = (holding []).sites; starts = [] } }
     ensures twice { (row_step (holding keyed) well (AddKeys (codes "A") 161 (keys_from 3))).answer ≡ Refuses KeysTwice }
     ensures twice_unfit { (row_step (holding keyed) well (AddKeys (codes "A") 161 unfit_keys)).answer ≡ Refuses KeysTwice }
     ensures unfit { (row_step (holding opened) well (AddKeys (codes "A") 161 unfit_keys)).answer ≡ Refuses (BadEvent (codes "key")) }
     ensures none { (row_step (holding opened) well (AddKeys (codes "B") 161 (keys_from 3))).answer ≡ Refuses ContextNotFound }
-    ensures untold { row_step (holding opened) untold (AddKeys (codes "A") 161 (keys_from 3)) ≡ record { answer = Refuses (OfOutside Keeper); put = Some (Keyed (codes "A") 161 (keys_from 3)); sent = None; sites = (holding []).sites } }
+    ensures untold { row_step (holding opened) untold (AddKeys (codes "A") 161 (keys_from 3)) ≡ record { answer = Refuses (OfOutside Keeper); put = Some (Keyed (codes "A") 161 (keys_from 3)); sent = None; sites = (holding []).sites; starts = [] } }
 {}
 
 /// Where no record more may be held, this is told before the keeper is asked, and after what the records tell.
