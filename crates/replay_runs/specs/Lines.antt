@@ -1,42 +1,66 @@
--- What the machine of `replay`, which was lent a world, a keeper and a signer, gives and keeps from line to line, and the statuses that its lines may come to.
+-- What the machine of `replay`, which was lent a world, a keeper, a signer, a verifier and a screen, gives and keeps from line to line, and the statuses that its lines may come to.
 use Rattle.std.specs.Prelude.{◌≡◌, ⊤, ℕ, ◌≤◌, List, refl}
 use Rattle.std.proofs.Common.{◌∙◌}
 use Rattle.std.proofs.Math.Nat.{le_refl, le_trans}
 use Rattle.replay_world.specs.declared.world.World.{World}
-use Rattle.spec_script.specs.Steps.{line_step}
 use Rattle.replay_world.specs.Worlds.{Steps}
 use Rattle.replay_world.specs.Stepping.{GivesUp}
-use Rattle.replay_world.specs.Outsiders.{Told, SignerStays, Signed, by}
-use Rattle.replay_runs.specs.Outsiders.{Counts, Later}
+use Rattle.replay_world.specs.Outsiders.{Outsiders, Told, OthersStay, Acted, line_steps}
 use Rattle.replay_runs.specs.declared.status.Status.{Status}
 use Rattle.replay_runs.specs.declared.status.Status.TheVariants as status
 
--- line n is answered over the records that are held, the keeper's count hasn't fallen, and the signer stays
+-- line n is answered over the records that are held, the keeper's count hasn't fallen, and the others stay
 pub record AnswersLine (before after_ : Told) (old new : World) (number : ℕ) (line text : List ℕ) : Type 0 where
   pub steps : Steps before after_ old new number line text
   pub later : before.keeper_faults ≤ after_.keeper_faults
-  pub signer : SignerStays before.signer after_.signer
+  pub others : OthersStay before.others after_.others
 
--- memory is refused at the line, over what is held, the keeper's count hasn't fallen, and the signer stays
+-- memory is refused at the line, over what is held, the keeper's count hasn't fallen, and the others stay
 pub record GivesUpLine (before after_ : Told) (old new : World) (line : List ℕ) : Type 0 where
-  pub left : Signed before.signer after_.signer (λ x. GivesUp (λ s f. line_step s (by x f) line) before.held after_.held old new)
+  pub left : Acted before.others after_.others (λ x. GivesUp (line_steps before.others.screen x line) before.held after_.held old new)
   pub later : before.keeper_faults ≤ after_.keeper_faults
-  pub signer : SignerStays before.signer after_.signer
+  pub others : OthersStay before.others after_.others
 
--- the same keeper and signer, whose counts haven't fallen
-pub record IsLater {N L : Type 0} (keeper keeper' : N) (signer signer' : L) (before after_ : Counts) : Type 0 where
+-- what signer, verifier and screen tell stays, from one line to the next
+others_refl : (x : Outsiders) → OthersStay x x
+others_refl x = record {
+  signer = record { same_algorithm = refl; same_meaning = refl; later = le_refl x.signer.faults };
+  verifier = record { same_meaning = refl; later = le_refl x.verifier.faults };
+  same_screen = refl;
+}
+
+others_trans : (x y z : Outsiders) → OthersStay x y → OthersStay y z → OthersStay x z
+others_trans x y z p q = record {
+  signer = record {
+    same_algorithm = q.signer.same_algorithm ∙ p.signer.same_algorithm;
+    same_meaning = q.signer.same_meaning ∙ p.signer.same_meaning;
+    later = le_trans p.signer.later q.signer.later;
+  };
+  verifier = record {
+    same_meaning = q.verifier.same_meaning ∙ p.verifier.same_meaning;
+    later = le_trans p.verifier.later q.verifier.later;
+  };
+  same_screen = q.same_screen ∙ p.same_screen;
+}
+
+-- the same keeper, whose count hasn't fallen, and the same signer and verifier, which stay
+pub record IsLater {N L V : Type 0} (keeper keeper' : N) (signer signer' : L) (verifier verifier' : V) (before after_ : ℕ) (others others' : Outsiders) : Type 0 where
   pub same_keeper : keeper' ≡ keeper
   pub same_signer : signer' ≡ signer
-  pub later : Later before after_
+  pub same_verifier : verifier' ≡ verifier
+  pub later : before ≤ after_
+  pub others_stay : OthersStay others others'
 
-pub later_refl : {N L : Type 0} (keeper : N) (signer : L) (counts : Counts) → IsLater keeper keeper signer signer counts counts
-later_refl keeper signer counts = record { same_keeper = refl; same_signer = refl; later = record { keeper = le_refl counts.keeper; signer = le_refl counts.signer } }
+pub later_refl : {N L V : Type 0} (keeper : N) (signer : L) (verifier : V) (faults : ℕ) (others : Outsiders) → IsLater keeper keeper signer signer verifier verifier faults faults others others
+later_refl keeper signer verifier faults others = record { same_keeper = refl; same_signer = refl; same_verifier = refl; later = le_refl faults; others_stay = others_refl others }
 
-pub later_trans : {N L : Type 0} (a b c : N) (d e f : L) (i j k : Counts) → IsLater a b d e i j → IsLater b c e f j k → IsLater a c d f i k
-later_trans a b c d e f i j k p q = record {
+pub later_trans : {N L V : Type 0} (a b c : N) (d e f : L) (u v w : V) (i j k : ℕ) (x y z : Outsiders) → IsLater a b d e u v i j x y → IsLater b c e f v w j k y z → IsLater a c d f u w i k x z
+later_trans a b c d e f u v w i j k x y z p q = record {
   same_keeper = q.same_keeper ∙ p.same_keeper;
   same_signer = q.same_signer ∙ p.same_signer;
-  later = record { keeper = le_trans p.later.keeper q.later.keeper; signer = le_trans p.later.signer q.later.signer };
+  same_verifier = q.same_verifier ∙ p.same_verifier;
+  later = le_trans p.later q.later;
+  others_stay = others_trans x y z p.others_stay q.others_stay;
 }
 
 -- a status of the reading of lines

@@ -13,7 +13,7 @@ use Rattle.replay_runs.specs.Outsiders.{Counts}
 use Rattle.spec_script.specs.Refusals.{Refusal, OfOutside}
 use Rattle.spec_script.specs.Steps.{State, Answer, line_step}
 use Rattle.spec_script.specs.Answers.{answer_text}
-use Rattle.spec_script.specs.Output.{Numbered, Answers, Answered, Output, answers_text, begin, has_refusal, is_keeper_refusal, is_signer_refusal}
+use Rattle.spec_script.specs.Output.{Numbered, Answers, Answered, Output, answers_text, begin, has_refusal, is_keeper_refusal, is_signer_refusal, is_verifier_refusal}
 use Rattle.context_store.specs.Stores.{AreRecords}
 use Rattle.replay_world.specs.Worlds.{TellsRecords}
 use Rattle.replay_runs.specs.Unfailing.{plain_output, plain_state}
@@ -38,12 +38,18 @@ tells_journal x = has_refusal is_journal_refusal x.1
 abbrev pub tells_signer : Numbered → Bool
 tells_signer x = has_refusal is_signer_refusal x.1
 
--- how keeper and signer stand in a run's answers, by their counts of faults before and after the run
+-- `VERIFIER`
+abbrev pub tells_verifier : Numbered → Bool
+tells_verifier x = has_refusal is_verifier_refusal x.1
+
+-- how keeper, signer and verifier stand in a run's answers, by their counts of faults before and after the run
 pub record OutsideAnswers (answers : List Numbered) (before after : Counts) : Type 0 where
   -- at most as many answers are `KEEPER` as the keeper failed
   pub keeper : RoseBy (count_by tells_keeper answers) before.keeper after.keeper
   -- at most as many are `SIGNER` as the signer failed
   pub signer : RoseBy (count_by tells_signer answers) before.signer after.signer
+  -- at most as many are `VERIFIER` as the verifier failed
+  pub verifier : RoseBy (count_by tells_verifier answers) before.verifier after.verifier
   -- none is `JOURNAL`: the keeper's records were read at the start, and each later one is a record
   pub sound : count_by tells_journal answers ≡ 0
 
@@ -59,8 +65,8 @@ pub record RepliesToAll (means : Meanings) (script : List ℕ) (records : List R
   -- the keeper holds the records of the last state
   pub held_is : TellsRecords held last.records
   pub causes : OutsideAnswers output.answers faults faults'
-  -- where neither keeper nor signer failed there is one output, and one last state
-  pub one : (Rose faults.keeper faults'.keeper → ⊥) → (Rose faults.signer faults'.signer → ⊥) → (out ≡ plain_output means records script) × (last ≡ plain_state means (begin records) (lines_of script))
+  -- where neither keeper nor signer nor verifier failed there is one output, and one last state
+  pub one : (Rose faults.keeper faults'.keeper → ⊥) → (Rose faults.signer faults'.signer → ⊥) → (Rose faults.verifier faults'.verifier → ⊥) → (out ≡ plain_output means records script) × (last ≡ plain_state means (begin records) (lines_of script))
 
 -- The first so many lines were answered, and nothing else.
 pub record RepliesToFirst (means : Meanings) (count : ℕ) (script : List ℕ) (records : List Record) (held : Option (List (List ℕ))) (faults faults' : Counts) (before after : Option (List ℕ)) : Type 0 where
@@ -91,7 +97,7 @@ pub record PutsUntold (means : Meanings) (script taken : List ℕ) (number : ℕ
   pub next : IsNext script taken number line
   pub choice : Choices
   pub by : IsBy means choice
-  pub held_is : TellsRecords held (with_put mid.records (line_step mid choice line).put)
+  pub held_is : TellsRecords held (with_put mid.records (line_step means.passes mid choice line).put)
 
 -- Memory was refused, and nothing of the next answer was written. The keeper holds the records of the state so far, and perhaps the next line's one record.
 pub record LacksMemory (means : Meanings) (script taken : List ℕ) (number : ℕ) (answers : List Numbered) (mid : State) (front : List ℕ) (held : Option (List (List ℕ))) (faults faults' : Counts) (result : Status) : Type 0 where
@@ -121,7 +127,7 @@ pub record StopsReading (means : Meanings) (script : List ℕ) (left : Option (L
   pub within : IsWithin taken
   pub replies : RepliesToFirst means (ended_lines taken) script records held faults faults' before after
 
--- How the signer signs; the script and what is left of it; the records that were held and what is held; the faults of keeper and signer, and what was written, before and after.
+-- How the signer signs, which signatures are true and what the screen passes; the script and what is left of it; the records that were held and what is held; the faults of keeper, signer and verifier, and what was written, before and after.
 abbrev pub Leaves : (means : Meanings) → (script : List ℕ) (left : Option (List ℕ)) (records : List Record) (held : Option (List (List ℕ))) (faults faults' : Counts) (before after : Option (List ℕ)) → Status → Type 0
 -- nothing is left, and every line was answered
 Leaves means script left records held faults faults' before after status.Done =

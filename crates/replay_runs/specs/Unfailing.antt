@@ -7,7 +7,7 @@ use Rattle.spec_script.specs.Steps.{State, Step, after, line_step}
 use Rattle.spec_script.specs.Output.{Numbered, answers_text, begin}
 
 abbrev pub plain_step : (means : Meanings) → State → List ℕ → Step
-plain_step means s line = line_step s (unfailing means) line
+plain_step means s line = line_step means.passes s (unfailing means) line
 
 -- the answers to these lines, the first of them line n. A blank line has none
 abbrev pub plain_answers : (means : Meanings) → State → ℕ → List (List ℕ) → List Numbered

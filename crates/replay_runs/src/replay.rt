@@ -5,6 +5,8 @@ ghost use Rattle.script_loop.specs.Limits.{script_limit};
 ghost use Rattle.script_loop.specs.Lines.{IsWithin};
 ghost use Rattle.spec_records.specs.Records.{record_limit};
 ghost use Rattle.context_store.specs.Stores.{Holds, IsFirstBad};
+ghost use Rattle.message_screens.specs.Screening.{IsScreen, rule_of};
+ghost use Rattle.replay_world.specs.Outsiders.{OthersStay, outsiders};
 ghost use Rattle.replay_world.specs.Worlds.{IsReady};
 ghost use Rattle.replay_runs.specs.Outsiders.{counts, meanings_told};
 ghost use Rattle.replay_runs.specs.Replays.{Leaves, WritesFront, OverRecords, AreHeld, IsComplete};
@@ -13,68 +15,99 @@ ghost use Rattle.replay_runs.specs.Lines.{IsOfLines};
 
 use crate::status::Status;
 use context_store::OpenFault;
-use n32_outside::{Keeper, Signer, Sink, Source};
-use n32_values::{Bytes, NoMemory};
+use http_message::Message;
+use message_screens::{Screen, ScreenRule};
+use n32_outside::{Keeper, Signer, Sink, Source, Verifier};
+use n32_values::{Bytes, NoMemory, PlmnId};
 use replay_world::{World, load_world, new_world, step};
 use script_loop::Machine;
 use std::alloc::Global;
 
-/// The machine of `replay`: the world that its events change, the keeper of its records, and what signs for
-/// intermediaries. It was lent them all.
+/// The machine of `replay`: the world that its events change, the keeper of its records, what signs for
+/// intermediaries and verifies that, and the screen of its receivers. It was lent them all.
 #[derive(Drop)]
-pub struct Events<'a, K: Keeper, G: Signer> {
+pub struct Events<'a, K: Keeper, G: Signer, V: Verifier, R: ScreenRule, F: Fn(&Message, &PlmnId) -> bool> {
     world: &'a mut World,
     keeper: &'a mut K,
     signer: &'a mut G,
+    verifier: &'a mut V,
+    screen: &'a Screen<F, R>,
 }
 
-impl<'a, K: Keeper, G: Signer> Machine for Events<'a, K, G> {
+impl<'a, K: Keeper, G: Signer, V: Verifier, R: ScreenRule, F: Fn(&Message, &PlmnId) -> bool>
+    Machine for Events<'a, K, G, V, R, F>
+{
     ghost use Rattle.replay_world.specs.Worlds.{IsReady};
-    ghost use Rattle.replay_world.specs.Outsiders.{told, of_signer};
-    ghost use Rattle.replay_runs.specs.Outsiders.{counts};
+    ghost use Rattle.replay_world.specs.Outsiders.{told, outsiders};
+    ghost use Rattle.message_screens.specs.Screening.{IsScreen, rule_of};
     ghost use Rattle.replay_runs.specs.Lines.{AnswersLine, GivesUpLine, IsLater, later_refl, later_trans};
 
-    ghost ready = { λ m. IsReady (K.held m.keeper.now) m.world.now };
+    ghost ready = { λ m. IsReady (K.held m.keeper.now) m.world.now × IsScreen F.Fn R.passes m.screen.now };
 
     ghost gives = { λ old number line text new. AnswersLine
-        (told (K.held old.keeper.now) (K.faults old.keeper.now) (of_signer (G.algorithm old.signer.now) (G.meaning old.signer.now) (G.faults old.signer.now)))
-        (told (K.held new.keeper.now) (K.faults new.keeper.now) (of_signer (G.algorithm new.signer.now) (G.meaning new.signer.now) (G.faults new.signer.now)))
+        (told (K.held old.keeper.now) (K.faults old.keeper.now) (outsiders (G.algorithm old.signer.now) (G.meaning old.signer.now) (G.faults old.signer.now) (V.meaning old.verifier.now) (V.faults old.verifier.now) (R.passes (rule_of old.screen.now))))
+        (told (K.held new.keeper.now) (K.faults new.keeper.now) (outsiders (G.algorithm new.signer.now) (G.meaning new.signer.now) (G.faults new.signer.now) (V.meaning new.verifier.now) (V.faults new.verifier.now) (R.passes (rule_of new.screen.now))))
         old.world.now new.world.now number line text };
 
     ghost gives_up = { λ old number line new. GivesUpLine
-        (told (K.held old.keeper.now) (K.faults old.keeper.now) (of_signer (G.algorithm old.signer.now) (G.meaning old.signer.now) (G.faults old.signer.now)))
-        (told (K.held new.keeper.now) (K.faults new.keeper.now) (of_signer (G.algorithm new.signer.now) (G.meaning new.signer.now) (G.faults new.signer.now)))
+        (told (K.held old.keeper.now) (K.faults old.keeper.now) (outsiders (G.algorithm old.signer.now) (G.meaning old.signer.now) (G.faults old.signer.now) (V.meaning old.verifier.now) (V.faults old.verifier.now) (R.passes (rule_of old.screen.now))))
+        (told (K.held new.keeper.now) (K.faults new.keeper.now) (outsiders (G.algorithm new.signer.now) (G.meaning new.signer.now) (G.faults new.signer.now) (V.meaning new.verifier.now) (V.faults new.verifier.now) (R.passes (rule_of new.screen.now))))
         old.world.now new.world.now line };
 
-    ghost later = { λ old new. IsLater old.keeper.ghost_name new.keeper.ghost_name old.signer.ghost_name new.signer.ghost_name
-        (counts (K.faults old.keeper.now) (G.faults old.signer.now)) (counts (K.faults new.keeper.now) (G.faults new.signer.now)) };
+    ghost later = { λ old new. IsLater old.keeper.ghost_name new.keeper.ghost_name old.signer.ghost_name new.signer.ghost_name old.verifier.ghost_name new.verifier.ghost_name (K.faults old.keeper.now) (K.faults new.keeper.now)
+        (outsiders (G.algorithm old.signer.now) (G.meaning old.signer.now) (G.faults old.signer.now) (V.meaning old.verifier.now) (V.faults old.verifier.now) (R.passes (rule_of old.screen.now)))
+        (outsiders (G.algorithm new.signer.now) (G.meaning new.signer.now) (G.faults new.signer.now) (V.meaning new.verifier.now) (V.faults new.verifier.now) (R.passes (rule_of new.screen.now))) };
 
-    ghost stays = { λ m. later_refl m.keeper.ghost_name m.signer.ghost_name (counts (K.faults m.keeper.now) (G.faults m.signer.now)) };
+    ghost stays = { λ m. later_refl m.keeper.ghost_name m.signer.ghost_name m.verifier.ghost_name (K.faults m.keeper.now)
+        (outsiders (G.algorithm m.signer.now) (G.meaning m.signer.now) (G.faults m.signer.now) (V.meaning m.verifier.now) (V.faults m.verifier.now) (R.passes (rule_of m.screen.now))) };
 
-    ghost goes_on = { λ a b c p q. later_trans a.keeper.ghost_name b.keeper.ghost_name c.keeper.ghost_name a.signer.ghost_name b.signer.ghost_name c.signer.ghost_name
-        (counts (K.faults a.keeper.now) (G.faults a.signer.now)) (counts (K.faults b.keeper.now) (G.faults b.signer.now)) (counts (K.faults c.keeper.now) (G.faults c.signer.now)) p q };
+    ghost goes_on = { λ a b c p q. later_trans a.keeper.ghost_name b.keeper.ghost_name c.keeper.ghost_name a.signer.ghost_name b.signer.ghost_name c.signer.ghost_name a.verifier.ghost_name b.verifier.ghost_name c.verifier.ghost_name
+        (K.faults a.keeper.now) (K.faults b.keeper.now) (K.faults c.keeper.now)
+        (outsiders (G.algorithm a.signer.now) (G.meaning a.signer.now) (G.faults a.signer.now) (V.meaning a.verifier.now) (V.faults a.verifier.now) (R.passes (rule_of a.screen.now)))
+        (outsiders (G.algorithm b.signer.now) (G.meaning b.signer.now) (G.faults b.signer.now) (V.meaning b.verifier.now) (V.faults b.verifier.now) (R.passes (rule_of b.screen.now)))
+        (outsiders (G.algorithm c.signer.now) (G.meaning c.signer.now) (G.faults c.signer.now) (V.meaning c.verifier.now) (V.faults c.verifier.now) (R.passes (rule_of c.screen.now))) p q };
 
     fn answer(&mut self, alloc: Global, number: u64, line: &[u8]) -> Result<Bytes, NoMemory> {
-        step(alloc, self.world, number, line, self.keeper, self.signer)
+        step(
+            alloc,
+            self.world,
+            number,
+            line,
+            self.keeper,
+            self.signer,
+            self.verifier,
+            self.screen,
+        )
     }
 }
 
 // Answers each line of the script in a world whose records were read, and which has no node and no document yet.
-fn replay_lines<S: Source, O: Sink, K: Keeper, G: Signer>(
+fn replay_lines<
+    S: Source,
+    O: Sink,
+    K: Keeper,
+    G: Signer,
+    V: Verifier,
+    R: ScreenRule,
+    F: Fn(&Message, &PlmnId) -> bool,
+>(
     alloc: Global,
     source: &mut S,
     sink: &mut O,
     keeper: &mut K,
     signer: &mut G,
+    verifier: &mut V,
+    screen: &Screen<F, R>,
     world: &mut World,
 ) -> Status
     requires ready { IsReady (K.held keeper.old) world.old }
+    requires follows { IsScreen F.Fn R.passes screen.now }
     requires sites { world.old.sites ≡ [] }
     requires wire { world.old.wire ≡ [] }
     requires held { Holds (K.held keeper.old) world.old.store.records }
     requires few { length world.old.store.records ≤ record_limit }
-    ensures theorem { IfSome (meanings_told (G.algorithm signer.old) (G.meaning signer.old)) (λ means. IfSome (S.left source.old) (λ script. OverRecords (K.held keeper.old) (λ records.
-        Leaves means script (S.left source.new) records (K.held keeper.new) (counts (K.faults keeper.old) (G.faults signer.old)) (counts (K.faults keeper.new) (G.faults signer.new))
+    ensures theorem { IfSome (meanings_told (G.algorithm signer.old) (G.meaning signer.old) (V.meaning verifier.old) (R.passes (rule_of screen.now))) (λ means. IfSome (S.left source.old) (λ script. OverRecords (K.held keeper.old) (λ records.
+        Leaves means script (S.left source.new) records (K.held keeper.new) (counts (K.faults keeper.old) (G.faults signer.old) (V.faults verifier.old)) (counts (K.faults keeper.new) (G.faults signer.new) (V.faults verifier.new))
         (O.written sink.old) (O.written sink.new) result))) }
     ensures complete { IfSome (S.left source.old) (λ script. IsWithin script
         → IsComplete (Rose (S.faults source.old) (S.faults source.new)) (Rose (O.faults sink.old) (O.faults sink.new)) ⊥ result) }
@@ -85,28 +118,42 @@ fn replay_lines<S: Source, O: Sink, K: Keeper, G: Signer>(
     ensures reading { S.faults source.old ≤ S.faults source.new }
     ensures writing { O.faults sink.old ≤ O.faults sink.new }
     ensures keeping { K.faults keeper.old ≤ K.faults keeper.new }
-    ensures signing { G.faults signer.old ≤ G.faults signer.new }
+    ensures others { OthersStay (outsiders (G.algorithm signer.old) (G.meaning signer.old) (G.faults signer.old) (V.meaning verifier.old) (V.faults verifier.old) (R.passes (rule_of screen.now)))
+        (outsiders (G.algorithm signer.new) (G.meaning signer.new) (G.faults signer.new) (V.meaning verifier.new) (V.faults verifier.new) (R.passes (rule_of screen.now))) }
 {
     let mut machine = Events {
         world,
         keeper,
         signer,
+        verifier,
+        screen,
     };
     Status::from(script_loop::run(alloc, source, sink, &mut machine))
 }
 
 /// Reads the records that the keeper holds, and then answers the events of the source's script, line by line.
-pub(crate) fn replay<S: Source, O: Sink, K: Keeper, G: Signer>(
+pub(crate) fn replay<
+    S: Source,
+    O: Sink,
+    K: Keeper,
+    G: Signer,
+    V: Verifier,
+    R: ScreenRule,
+    F: Fn(&Message, &PlmnId) -> bool,
+>(
     alloc: Global,
     source: &mut S,
     sink: &mut O,
     keeper: &mut K,
     signer: &mut G,
+    verifier: &mut V,
+    screen: &Screen<F, R>,
 ) -> Status
-    ensures theorem { IfSome (meanings_told (G.algorithm signer.old) (G.meaning signer.old)) (λ means. IfSome (S.left source.old) (λ script. OverRecords (K.held keeper.old) (λ records.
-        Leaves means script (S.left source.new) records (K.held keeper.new) (counts (K.faults keeper.old) (G.faults signer.old)) (counts (K.faults keeper.new) (G.faults signer.new))
+    requires { IsScreen F.Fn R.passes screen.now }
+    ensures theorem { IfSome (meanings_told (G.algorithm signer.old) (G.meaning signer.old) (V.meaning verifier.old) (R.passes (rule_of screen.now))) (λ means. IfSome (S.left source.old) (λ script. OverRecords (K.held keeper.old) (λ records.
+        Leaves means script (S.left source.new) records (K.held keeper.new) (counts (K.faults keeper.old) (G.faults signer.old) (V.faults verifier.old)) (counts (K.faults keeper.new) (G.faults signer.new) (V.faults verifier.new))
         (O.written sink.old) (O.written sink.new) result))) }
-    ensures front { IfSome (meanings_told (G.algorithm signer.old) (G.meaning signer.old)) (λ means. IfSome (S.left source.old) (λ script. OverRecords (K.held keeper.old) (λ records.
+    ensures front { IfSome (meanings_told (G.algorithm signer.old) (G.meaning signer.old) (V.meaning verifier.old) (R.passes (rule_of screen.now))) (λ means. IfSome (S.left source.old) (λ script. OverRecords (K.held keeper.old) (λ records.
         WritesFront means script records (O.written sink.old) (O.written sink.new)))) }
     ensures journal { NamesBad (K.held keeper.old) result }
     ensures bad { IfSome (K.held keeper.old) (λ texts. (k : ℕ) → IsFirstBad texts k → IsRefused k result
@@ -122,12 +169,15 @@ pub(crate) fn replay<S: Source, O: Sink, K: Keeper, G: Signer>(
     ensures reading { S.faults source.old ≤ S.faults source.new }
     ensures writing { O.faults sink.old ≤ O.faults sink.new }
     ensures keeping { K.faults keeper.old ≤ K.faults keeper.new }
-    ensures signing { G.faults signer.old ≤ G.faults signer.new }
+    ensures others { OthersStay (outsiders (G.algorithm signer.old) (G.meaning signer.old) (G.faults signer.old) (V.meaning verifier.old) (V.faults verifier.old) (R.passes (rule_of screen.now)))
+        (outsiders (G.algorithm signer.new) (G.meaning signer.new) (G.faults signer.new) (V.meaning verifier.new) (V.faults verifier.new) (R.passes (rule_of screen.now))) }
     ensures named { result ≢ Status.Words }
 {
     let mut world = new_world(alloc);
     match load_world(alloc, &mut world, keeper) {
-        Ok(()) => replay_lines(alloc, source, sink, keeper, signer, &mut world),
+        Ok(()) => replay_lines(
+            alloc, source, sink, keeper, signer, verifier, screen, &mut world,
+        ),
         Err(OpenFault::Journal(number)) => Status::Journal(number),
         Err(OpenFault::Keeper) => Status::KeeperFault,
         Err(OpenFault::NoMemory) => Status::NoMemory,

@@ -33,7 +33,7 @@ use Rattle.context_store.specs.Changes.{CallBy}
 use Rattle.replay_world.specs.Refusing.{of_sending, of_receiving}
 use Rattle.replay_world.specs.Worlds.{sites_view, state_of}
 use Rattle.replay_world.specs.Stepping.{Makes, HasPut, GivesUp, Tells, Comes}
-use Rattle.replay_world.specs.Outsiders.{unsigned}
+use Rattle.replay_world.specs.Outsiders.{all_pass, idle, by, unasked}
 use Rattle.replay_world.specs.Wires.{HasMore}
 use Rattle.replay_world.specs.declared.world.World.{World}
 use Rattle.script_lines.specs.declared.unanswered.Unanswered.TheVariants as unanswered
@@ -148,10 +148,10 @@ comes_unsealed o steps held now old new number node id m protecting.NoMemory h s
 
 -- what stood on the wire, and one document more
 pub idles_given : (old new : World) (number : ℕ) (text : List ℕ) (t : Tree) → is_full old.wire ≡ false → text ≡ answer_text number (OnWire (length old.wire + 1)) → HasMore old new t
-    → Idles (λ s f. step s (unsigned f) (Inject t)) old new number (Ok text)
+    → Idles (unasked (Inject t)) old new number (Ok text)
 idles_given old new number text t room is more = record {
   step = injects (state_of old []) t;
-  same = λ records f. given_goes_on (state_of old records) (unsigned f) t room;
+  same = λ records f. given_goes_on all_pass (state_of old records) (by idle f) t room;
   puts_none = refl;
   told = (is, refl);
   sites = ap sites_view (more.sites);
@@ -173,10 +173,10 @@ idles_made steps old new number text t same is more = record {
 
 -- a report that is read
 pub idles_reported : (old : World) (number : ℕ) (text : List ℕ) (node : List ℕ) (t : Tree) (r : Report) → is_some (plmn_at (sites_view old.sites) node) ≡ true → report_in t ≡ Ok r → text ≡ answer_text number (Reports r)
-    → Idles (λ s f. step s (unsigned f) (Reported node t)) old old number (Ok text)
+    → Idles (unasked (Reported node t)) old old number (Ok text)
 idles_reported old number text node t r known good is = record {
   step = reports (state_of old []) r;
-  same = λ records f. report_told (state_of old records) (unsigned f) node t r known good;
+  same = λ records f. report_told all_pass (state_of old records) (by idle f) node t r known good;
   puts_none = refl;
   told = (is, refl);
   sites = refl;

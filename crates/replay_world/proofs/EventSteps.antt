@@ -10,7 +10,9 @@ use Rattle.spec_records.specs.RecordDocument.{is_well_named}
 use Rattle.spec_exchange.specs.Chain.{◌>>=◌, unless, or_refused}
 use Rattle.spec_messages.specs.Limits.{full_wire, many_records}
 use Rattle.spec_exchange.specs.Outside.{Choice, Read}
-use Rattle.spec_exchange.specs.Calls.{Outgoing, accepted, sends}
+use Rattle.spec_exchange.specs.Calls.{Outgoing, sends}
+use Rattle.spec_exchange.specs.AcceptCalls as accepting
+use Rattle.spec_exchange.specs.Screens.{Passes}
 use Rattle.spec_documents.specs.Patch.{Op}
 use Rattle.spec_sealing.specs.Received.{Received}
 use Rattle.spec_sealing.specs.Passing.{with_room, passed}
@@ -51,34 +53,34 @@ unknown s node k h = ap (or_refuses s) (bind_err (known_node s node) NodeUnknown
 
 -- ---- nodes
 
-pub node_exists : (s : State) (f : Choices) (node plmn : List ℕ) → is_some (plmn_at s.sites node) ≡ true → step s f (AddNode node plmn) ≡ refuses s NodeExists
-node_exists s f node plmn h = ap (or_refuses s) (bind_err (new_node s node) NodeExists (λ new. Ok (adds_node s node plmn)) (ap (λ (b : Bool). unless b NodeExists) h))
+pub node_exists : (passes : Passes) (s : State) (f : Choices) (node plmn : List ℕ) → is_some (plmn_at s.sites node) ≡ true → step passes s f (AddNode node plmn) ≡ refuses s NodeExists
+node_exists passes s f node plmn h = ap (or_refuses s) (bind_err (new_node s node) NodeExists (λ new. Ok (adds_node s node plmn)) (ap (λ (b : Bool). unless b NodeExists) h))
 
-pub node_is_new : (s : State) (f : Choices) (node plmn : List ℕ) → is_some (plmn_at s.sites node) ≡ false → step s f (AddNode node plmn) ≡ adds_node s node plmn
-node_is_new s f node plmn h = ap (or_refuses s) (bind_ok (new_node s node) tt (λ new. Ok (adds_node s node plmn)) (ap (λ (b : Bool). unless b NodeExists) h))
+pub node_is_new : (passes : Passes) (s : State) (f : Choices) (node plmn : List ℕ) → is_some (plmn_at s.sites node) ≡ false → step passes s f (AddNode node plmn) ≡ adds_node s node plmn
+node_is_new passes s f node plmn h = ap (or_refuses s) (bind_ok (new_node s node) tt (λ new. Ok (adds_node s node plmn)) (ap (λ (b : Bool). unless b NodeExists) h))
 
 -- ---- the node of an event is unknown
 
-pub unknown_context : (s : State) (f : Choices) (x : HandedContext) → is_some (plmn_at s.sites x.node) ≡ false → step s f (AddContext x) ≡ refuses s NodeUnknown
-unknown_context s f x h = unknown s x.node _ h
+pub unknown_context : (passes : Passes) (s : State) (f : Choices) (x : HandedContext) → is_some (plmn_at s.sites x.node) ≡ false → step passes s f (AddContext x) ≡ refuses s NodeUnknown
+unknown_context passes s f x h = unknown s x.node _ h
 
-pub unknown_keys : (s : State) (f : Choices) (node : List ℕ) (id : ℕ) (set : KeySet) → is_some (plmn_at s.sites node) ≡ false → step s f (AddKeys node id set) ≡ refuses s NodeUnknown
-unknown_keys s f node id set h = unknown s node _ h
+pub unknown_keys : (passes : Passes) (s : State) (f : Choices) (node : List ℕ) (id : ℕ) (set : KeySet) → is_some (plmn_at s.sites node) ≡ false → step passes s f (AddKeys node id set) ≡ refuses s NodeUnknown
+unknown_keys passes s f node id set h = unknown s node _ h
 
-pub unknown_sender : (s : State) (f : Choices) (node : List ℕ) (id : ℕ) (t : Tree) (answers : Option ℕ) → is_some (plmn_at s.sites node) ≡ false → step s f (Send node id t answers) ≡ refuses s NodeUnknown
-unknown_sender s f node id t answers h = unknown s node _ h
+pub unknown_sender : (passes : Passes) (s : State) (f : Choices) (node : List ℕ) (id : ℕ) (t : Tree) (answers : Option ℕ) → is_some (plmn_at s.sites node) ≡ false → step passes s f (Send node id t answers) ≡ refuses s NodeUnknown
+unknown_sender passes s f node id t answers h = unknown s node _ h
 
-pub unknown_receiver : (s : State) (f : Choices) (node : List ℕ) (wire : ℤ) → is_some (plmn_at s.sites node) ≡ false → step s f (Deliver node wire) ≡ refuses s NodeUnknown
-unknown_receiver s f node wire h = unknown s node _ h
+pub unknown_receiver : (passes : Passes) (s : State) (f : Choices) (node : List ℕ) (wire : ℤ) → is_some (plmn_at s.sites node) ≡ false → step passes s f (Deliver node wire) ≡ refuses s NodeUnknown
+unknown_receiver passes s f node wire h = unknown s node _ h
 
-pub unknown_restart : (s : State) (f : Choices) (node : List ℕ) → is_some (plmn_at s.sites node) ≡ false → step s f (Restart node) ≡ refuses s NodeUnknown
-unknown_restart s f node h = unknown s node _ h
+pub unknown_restart : (passes : Passes) (s : State) (f : Choices) (node : List ℕ) → is_some (plmn_at s.sites node) ≡ false → step passes s f (Restart node) ≡ refuses s NodeUnknown
+unknown_restart passes s f node h = unknown s node _ h
 
-pub restarts : (s : State) (f : Choices) (node : List ℕ) → is_some (plmn_at s.sites node) ≡ true → step s f (Restart node) ≡ does s (codes "restart")
-restarts s f node h = known s node _ h
+pub restarts : (passes : Passes) (s : State) (f : Choices) (node : List ℕ) → is_some (plmn_at s.sites node) ≡ true → step passes s f (Restart node) ≡ does s (codes "restart")
+restarts passes s f node h = known s node _ h
 
-pub unknown_reported : (s : State) (f : Choices) (node : List ℕ) (t : Tree) → is_some (plmn_at s.sites node) ≡ false → step s f (Reported node t) ≡ refuses s NodeUnknown
-unknown_reported s f node t h = unknown s node _ h
+pub unknown_reported : (passes : Passes) (s : State) (f : Choices) (node : List ℕ) (t : Tree) → is_some (plmn_at s.sites node) ≡ false → step passes s f (Reported node t) ≡ refuses s NodeUnknown
+unknown_reported passes s f node t h = unknown s node _ h
 
 -- ---- documents
 
@@ -97,75 +99,75 @@ stops : (s : State) (k : Result Step Refusal) → is_full s.wire ≡ true → or
 stops s k h = ap (or_refuses s) (bind_err (room_on_wire s) (Beyond full_wire) (λ room. k) (ap (λ (b : Bool). unless b (Beyond full_wire)) h))
 
 -- delivering
-pub no_document : (s : State) (f : Choices) (node : List ℕ) (wire : ℤ) → is_some (plmn_at s.sites node) ≡ true → wire_at s.wire wire ≡ None → step s f (Deliver node wire) ≡ refuses s WireUnknown
-no_document s f node wire h none = known s node _ h ∙ none_at s wire _ none
+pub no_document : (passes : Passes) (s : State) (f : Choices) (node : List ℕ) (wire : ℤ) → is_some (plmn_at s.sites node) ≡ true → wire_at s.wire wire ≡ None → step passes s f (Deliver node wire) ≡ refuses s WireUnknown
+no_document passes s f node wire h none = known s node _ h ∙ none_at s wire _ none
 
-pub delivers_document : (s : State) (f : Choices) (node : List ℕ) (wire : ℤ) (t : Tree) → is_some (plmn_at s.sites node) ≡ true → wire_at s.wire wire ≡ Some t → step s f (Deliver node wire) ≡ delivers s t (accepted f.keeper s.records node t)
-delivers_document s f node wire t h found = known s node _ h ∙ found_at s wire t _ found
+pub delivers_document : (passes : Passes) (s : State) (f : Choices) (node : List ℕ) (wire : ℤ) (t : Tree) → is_some (plmn_at s.sites node) ≡ true → wire_at s.wire wire ≡ Some t → step passes s f (Deliver node wire) ≡ delivers s t (accepted f.keeper s.records node t)
+delivers_document passes s f node wire t h found = known s node _ h ∙ found_at s wire t _ found
 
 -- sending
-pub sender_full : (s : State) (f : Choices) (node : List ℕ) (id : ℕ) (t : Tree) (answers : Option ℕ) → is_some (plmn_at s.sites node) ≡ true → is_full s.wire ≡ true → step s f (Send node id t answers) ≡ refuses s (Beyond full_wire)
-sender_full s f node id t answers h full = known s node _ h ∙ stops s _ full
+pub sender_full : (passes : Passes) (s : State) (f : Choices) (node : List ℕ) (id : ℕ) (t : Tree) (answers : Option ℕ) → is_some (plmn_at s.sites node) ≡ true → is_full s.wire ≡ true → step passes s f (Send node id t answers) ≡ refuses s (Beyond full_wire)
+sender_full passes s f node id t answers h full = known s node _ h ∙ stops s _ full
 
-pub no_message : (s : State) (f : Choices) (node : List ℕ) (id : ℕ) (t : Tree) (answers : Option ℕ) (e : Refusal) → is_some (plmn_at s.sites node) ≡ true → is_full s.wire ≡ false → message_to_send t answers ≡ Err e → step s f (Send node id t answers) ≡ refuses s e
-no_message s f node id t answers e h room bad =
+pub no_message : (passes : Passes) (s : State) (f : Choices) (node : List ℕ) (id : ℕ) (t : Tree) (answers : Option ℕ) (e : Refusal) → is_some (plmn_at s.sites node) ≡ true → is_full s.wire ≡ false → message_to_send t answers ≡ Err e → step passes s f (Send node id t answers) ≡ refuses s e
+no_message passes s f node id t answers e h room bad =
     known s node _ h ∙ (goes_on s _ room ∙ ap (or_refuses s) (bind_err (message_to_send t answers) e (λ m. Ok (sends_sealed s (sends f.keeper s.records node id m.0 m.1))) bad))
 
-pub sends_message : (s : State) (f : Choices) (node : List ℕ) (id : ℕ) (t : Tree) (answers : Option ℕ) (o : Outgoing) (m : Message) → is_some (plmn_at s.sites node) ≡ true → is_full s.wire ≡ false → message_to_send t answers ≡ Ok (o, m) → step s f (Send node id t answers) ≡ sends_sealed s (sends f.keeper s.records node id o m)
-sends_message s f node id t answers o m h room good =
+pub sends_message : (passes : Passes) (s : State) (f : Choices) (node : List ℕ) (id : ℕ) (t : Tree) (answers : Option ℕ) (o : Outgoing) (m : Message) → is_some (plmn_at s.sites node) ≡ true → is_full s.wire ≡ false → message_to_send t answers ≡ Ok (o, m) → step passes s f (Send node id t answers) ≡ sends_sealed s (sends f.keeper s.records node id o m)
+sends_message passes s f node id t answers o m h room good =
     known s node _ h ∙ (goes_on s _ room ∙ ap (or_refuses s) (bind_ok (message_to_send t answers) (o, m) (λ m. Ok (sends_sealed s (sends f.keeper s.records node id m.0 m.1))) good))
 
 -- putting on the wire
-pub given_full : (s : State) (f : Choices) (t : Tree) → is_full s.wire ≡ true → step s f (Inject t) ≡ refuses s (Beyond full_wire)
-given_full s f t full = stops s _ full
+pub given_full : (passes : Passes) (s : State) (f : Choices) (t : Tree) → is_full s.wire ≡ true → step passes s f (Inject t) ≡ refuses s (Beyond full_wire)
+given_full passes s f t full = stops s _ full
 
-pub given_goes_on : (s : State) (f : Choices) (t : Tree) → is_full s.wire ≡ false → step s f (Inject t) ≡ injects s t
-given_goes_on s f t room = goes_on s _ room
+pub given_goes_on : (passes : Passes) (s : State) (f : Choices) (t : Tree) → is_full s.wire ≡ false → step passes s f (Inject t) ≡ injects s t
+given_goes_on passes s f t room = goes_on s _ room
 
 -- altering
-pub altered_none : (s : State) (f : Choices) (wire : ℤ) (ops : List Op) → wire_at s.wire wire ≡ None → step s f (Alter wire ops) ≡ refuses s WireUnknown
-altered_none s f wire ops none = none_at s wire _ none
+pub altered_none : (passes : Passes) (s : State) (f : Choices) (wire : ℤ) (ops : List Op) → wire_at s.wire wire ≡ None → step passes s f (Alter wire ops) ≡ refuses s WireUnknown
+altered_none passes s f wire ops none = none_at s wire _ none
 
-pub altered_full : (s : State) (f : Choices) (wire : ℤ) (ops : List Op) (t : Tree) → wire_at s.wire wire ≡ Some t → is_full s.wire ≡ true → step s f (Alter wire ops) ≡ refuses s (Beyond full_wire)
-altered_full s f wire ops t found full = found_at s wire t _ found ∙ stops s _ full
+pub altered_full : (passes : Passes) (s : State) (f : Choices) (wire : ℤ) (ops : List Op) (t : Tree) → wire_at s.wire wire ≡ Some t → is_full s.wire ≡ true → step passes s f (Alter wire ops) ≡ refuses s (Beyond full_wire)
+altered_full passes s f wire ops t found full = found_at s wire t _ found ∙ stops s _ full
 
-pub altered_refused : (s : State) (f : Choices) (wire : ℤ) (ops : List Op) (t : Tree) (e : Refusal) → wire_at s.wire wire ≡ Some t → is_full s.wire ≡ false → altered ops t ≡ Err e → step s f (Alter wire ops) ≡ refuses s e
-altered_refused s f wire ops t e found room bad = found_at s wire t _ found ∙ (goes_on s _ room ∙ ap (or_refuses s) (bind_err (altered ops t) e (λ u. Ok (forwards s u)) bad))
+pub altered_refused : (passes : Passes) (s : State) (f : Choices) (wire : ℤ) (ops : List Op) (t : Tree) (e : Refusal) → wire_at s.wire wire ≡ Some t → is_full s.wire ≡ false → altered ops t ≡ Err e → step passes s f (Alter wire ops) ≡ refuses s e
+altered_refused passes s f wire ops t e found room bad = found_at s wire t _ found ∙ (goes_on s _ room ∙ ap (or_refuses s) (bind_err (altered ops t) e (λ u. Ok (forwards s u)) bad))
 
-pub altered_goes_on : (s : State) (f : Choices) (wire : ℤ) (ops : List Op) (t u : Tree) → wire_at s.wire wire ≡ Some t → is_full s.wire ≡ false → altered ops t ≡ Ok u → step s f (Alter wire ops) ≡ forwards s u
-altered_goes_on s f wire ops t u found room good = found_at s wire t _ found ∙ (goes_on s _ room ∙ ap (or_refuses s) (bind_ok (altered ops t) u (λ u. Ok (forwards s u)) good))
+pub altered_goes_on : (passes : Passes) (s : State) (f : Choices) (wire : ℤ) (ops : List Op) (t u : Tree) → wire_at s.wire wire ≡ Some t → is_full s.wire ≡ false → altered ops t ≡ Ok u → step passes s f (Alter wire ops) ≡ forwards s u
+altered_goes_on passes s f wire ops t u found room good = found_at s wire t _ found ∙ (goes_on s _ room ∙ ap (or_refuses s) (bind_ok (altered ops t) u (λ u. Ok (forwards s u)) good))
 
 -- passing on
-pub passed_none : (s : State) (f : Choices) (ipx : List ℕ) (wire : ℤ) (operations : Tree) → wire_at s.wire wire ≡ None → step s f (Pass ipx wire operations) ≡ refuses s WireUnknown
-passed_none s f ipx wire operations none = none_at s wire _ none
+pub passed_none : (passes : Passes) (s : State) (f : Choices) (ipx : List ℕ) (wire : ℤ) (operations : Tree) → wire_at s.wire wire ≡ None → step passes s f (Pass ipx wire operations) ≡ refuses s WireUnknown
+passed_none passes s f ipx wire operations none = none_at s wire _ none
 
-pub passed_full : (s : State) (f : Choices) (ipx : List ℕ) (wire : ℤ) (operations t : Tree) → wire_at s.wire wire ≡ Some t → is_full s.wire ≡ true → step s f (Pass ipx wire operations) ≡ refuses s (Beyond full_wire)
-passed_full s f ipx wire operations t found full = found_at s wire t _ found ∙ stops s _ full
+pub passed_full : (passes : Passes) (s : State) (f : Choices) (ipx : List ℕ) (wire : ℤ) (operations t : Tree) → wire_at s.wire wire ≡ Some t → is_full s.wire ≡ true → step passes s f (Pass ipx wire operations) ≡ refuses s (Beyond full_wire)
+passed_full passes s f ipx wire operations t found full = found_at s wire t _ found ∙ stops s _ full
 
-passes_by : (s : State) (f : Choices) (ipx : List ℕ) (wire : ℤ) (operations t : Tree) → wire_at s.wire wire ≡ Some t → is_full s.wire ≡ false → step s f (Pass ipx wire operations) ≡ or_refuses s (passes_on s f.signer ipx operations t)
-passes_by s f ipx wire operations t found room = found_at s wire t _ found ∙ goes_on s _ room
+passes_by : (passes : Passes) (s : State) (f : Choices) (ipx : List ℕ) (wire : ℤ) (operations t : Tree) → wire_at s.wire wire ≡ Some t → is_full s.wire ≡ false → step passes s f (Pass ipx wire operations) ≡ or_refuses s (passes_on s f.signer ipx operations t)
+passes_by passes s f ipx wire operations t found room = found_at s wire t _ found ∙ goes_on s _ room
 
-pub passed_goes_on : (s : State) (f : Choices) (ipx : List ℕ) (wire : ℤ) (operations t d : Tree) (g : Signer) → f.signer ≡ Signs g → wire_at s.wire wire ≡ Some t → is_full s.wire ≡ false → passed g.algorithm ipx operations (g.sign ipx) t ≡ Ok d → step s f (Pass ipx wire operations) ≡ forwards s d
-passed_goes_on s f ipx wire operations t d g signs found room good =
-    passes_by s f ipx wire operations t found room ∙ (ap (λ (x : Signing). or_refuses s (passes_on s x ipx operations t)) signs
+pub passed_goes_on : (passes : Passes) (s : State) (f : Choices) (ipx : List ℕ) (wire : ℤ) (operations t d : Tree) (g : Signer) → f.signer ≡ Signs g → wire_at s.wire wire ≡ Some t → is_full s.wire ≡ false → passed g.algorithm ipx operations (g.sign ipx) t ≡ Ok d → step passes s f (Pass ipx wire operations) ≡ forwards s d
+passed_goes_on passes s f ipx wire operations t d g signs found room good =
+    passes_by passes s f ipx wire operations t found room ∙ (ap (λ (x : Signing). or_refuses s (passes_on s x ipx operations t)) signs
     ∙ ap (or_refuses s) (bind_ok (or_refused BadForm (passed g.algorithm ipx operations (g.sign ipx) t)) d (λ d. Ok (forwards s d)) (ap (or_refused BadForm) good)))
 
-pub passed_refused : (s : State) (f : Choices) (ipx : List ℕ) (wire : ℤ) (operations t : Tree) (k : List ℕ) (g : Signer) → f.signer ≡ Signs g → wire_at s.wire wire ≡ Some t → is_full s.wire ≡ false → passed g.algorithm ipx operations (g.sign ipx) t ≡ Err k → step s f (Pass ipx wire operations) ≡ refuses s (BadForm k)
-passed_refused s f ipx wire operations t k g signs found room bad =
-    passes_by s f ipx wire operations t found room ∙ (ap (λ (x : Signing). or_refuses s (passes_on s x ipx operations t)) signs
+pub passed_refused : (passes : Passes) (s : State) (f : Choices) (ipx : List ℕ) (wire : ℤ) (operations t : Tree) (k : List ℕ) (g : Signer) → f.signer ≡ Signs g → wire_at s.wire wire ≡ Some t → is_full s.wire ≡ false → passed g.algorithm ipx operations (g.sign ipx) t ≡ Err k → step passes s f (Pass ipx wire operations) ≡ refuses s (BadForm k)
+passed_refused passes s f ipx wire operations t k g signs found room bad =
+    passes_by passes s f ipx wire operations t found room ∙ (ap (λ (x : Signing). or_refuses s (passes_on s x ipx operations t)) signs
     ∙ ap (or_refuses s) (bind_err (or_refused BadForm (passed g.algorithm ipx operations (g.sign ipx) t)) (BadForm k) (λ d. Ok (forwards s d)) (ap (or_refused BadForm) bad)))
 
-pub passed_unsigned : (s : State) (f : Choices) (ipx : List ℕ) (wire : ℤ) (operations t : Tree) (parts : Received) → f.signer ≡ SignerFails → wire_at s.wire wire ≡ Some t → is_full s.wire ≡ false → with_room t ≡ Ok parts → step s f (Pass ipx wire operations) ≡ refuses s SignerFailed
-passed_unsigned s f ipx wire operations t parts fails found room good =
-    passes_by s f ipx wire operations t found room ∙ (ap (λ (x : Signing). or_refuses s (passes_on s x ipx operations t)) fails
+pub passed_unsigned : (passes : Passes) (s : State) (f : Choices) (ipx : List ℕ) (wire : ℤ) (operations t : Tree) (parts : Received) → f.signer ≡ SignerFails → wire_at s.wire wire ≡ Some t → is_full s.wire ≡ false → with_room t ≡ Ok parts → step passes s f (Pass ipx wire operations) ≡ refuses s SignerFailed
+passed_unsigned passes s f ipx wire operations t parts fails found room good =
+    passes_by passes s f ipx wire operations t found room ∙ (ap (λ (x : Signing). or_refuses s (passes_on s x ipx operations t)) fails
     ∙ ap (or_refuses s) (bind_ok (or_refused BadForm (with_room t)) parts (λ parts. Err SignerFailed) (ap (or_refused BadForm) good)))
 
 -- reports
-pub no_report_told : (s : State) (f : Choices) (node : List ℕ) (t : Tree) (e : NoReport) → is_some (plmn_at s.sites node) ≡ true → report_in t ≡ Err e → step s f (Reported node t) ≡ refuses s BadReport
-no_report_told s f node t e h bad = known s node _ h ∙ ap (or_refuses s) (bind_err (or_refused (λ none. BadReport) (report_in t)) BadReport (λ r. Ok (reports s r)) (ap (or_refused (λ none. BadReport)) bad))
+pub no_report_told : (passes : Passes) (s : State) (f : Choices) (node : List ℕ) (t : Tree) (e : NoReport) → is_some (plmn_at s.sites node) ≡ true → report_in t ≡ Err e → step passes s f (Reported node t) ≡ refuses s BadReport
+no_report_told passes s f node t e h bad = known s node _ h ∙ ap (or_refuses s) (bind_err (or_refused (λ none. BadReport) (report_in t)) BadReport (λ r. Ok (reports s r)) (ap (or_refused (λ none. BadReport)) bad))
 
-pub report_told : (s : State) (f : Choices) (node : List ℕ) (t : Tree) (r : Report) → is_some (plmn_at s.sites node) ≡ true → report_in t ≡ Ok r → step s f (Reported node t) ≡ reports s r
-report_told s f node t r h good = known s node _ h ∙ ap (or_refuses s) (bind_ok (or_refused (λ none. BadReport) (report_in t)) r (λ r. Ok (reports s r)) (ap (or_refused (λ none. BadReport)) good))
+pub report_told : (passes : Passes) (s : State) (f : Choices) (node : List ℕ) (t : Tree) (r : Report) → is_some (plmn_at s.sites node) ≡ true → report_in t ≡ Ok r → step passes s f (Reported node t) ≡ reports s r
+report_told passes s f node t r h good = known s node _ h ∙ ap (or_refuses s) (bind_ok (or_refused (λ none. BadReport) (report_in t)) r (λ r. Ok (reports s r)) (ap (or_refused (λ none. BadReport)) good))
 
 -- ---- contexts and keys
 
@@ -174,18 +176,18 @@ unfolding ◌>>=◌
 bind_bind (Ok x) k l = refl
 bind_bind (Err e) k l = refl
 
-pub no_context : (s : State) (f : Choices) (x : HandedContext) (e : Refusal) → is_some (plmn_at s.sites x.node) ≡ true → context_to_open x ≡ Err e → step s f (AddContext x) ≡ refuses s e
+pub no_context : (passes : Passes) (s : State) (f : Choices) (x : HandedContext) (e : Refusal) → is_some (plmn_at s.sites x.node) ≡ true → context_to_open x ≡ Err e → step passes s f (AddContext x) ≡ refuses s e
 unfolding ◌>>=◌
-no_context s f x e h bad =
+no_context passes s f x e h bad =
     known s x.node _ h ∙ ap (or_refuses s) (sym (bind_bind (policy_to_hold x.policy) (λ policy. Ok (context_with x policy)) (λ y. opens s f.keeper y)) ∙ bind_err (context_to_open x) e (λ y. opens s f.keeper y) bad)
 
-pub opens_context : (s : State) (f : Choices) (x : HandedContext) (y : Context) → is_some (plmn_at s.sites x.node) ≡ true → context_to_open x ≡ Ok y → step s f (AddContext x) ≡ or_refuses s (opens s f.keeper y)
+pub opens_context : (passes : Passes) (s : State) (f : Choices) (x : HandedContext) (y : Context) → is_some (plmn_at s.sites x.node) ≡ true → context_to_open x ≡ Ok y → step passes s f (AddContext x) ≡ or_refuses s (opens s f.keeper y)
 unfolding ◌>>=◌
-opens_context s f x y h good =
+opens_context passes s f x y h good =
     known s x.node _ h ∙ ap (or_refuses s) (sym (bind_bind (policy_to_hold x.policy) (λ policy. Ok (context_with x policy)) (λ y. opens s f.keeper y)) ∙ bind_ok (context_to_open x) y (λ y. opens s f.keeper y) good)
 
-pub takes_keys : (s : State) (f : Choices) (node : List ℕ) (id : ℕ) (set : KeySet) → is_some (plmn_at s.sites node) ≡ true → step s f (AddKeys node id set) ≡ or_refuses s (keys_up s f.keeper node id set)
-takes_keys s f node id set h = known s node _ h
+pub takes_keys : (passes : Passes) (s : State) (f : Choices) (node : List ℕ) (id : ℕ) (set : KeySet) → is_some (plmn_at s.sites node) ≡ true → step passes s f (AddKeys node id set) ≡ or_refuses s (keys_up s f.keeper node id set)
+takes_keys passes s f node id set h = known s node _ h
 
 -- what follows the reading of the store
 abbrev pub opens_rest : Context → State → Choice → Result Step Refusal

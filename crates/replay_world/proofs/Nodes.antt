@@ -8,7 +8,7 @@ use Rattle.spec_script.specs.Steps as spec
 use Rattle.spec_script.specs.Steps.{Fine, plmn_at, adds_node, does, step}
 use Rattle.spec_script.specs.Answers.{answer_text}
 use Rattle.replay_world.specs.Worlds.{site_view, sites_view, state_of, AreDistinct}
-use Rattle.replay_world.specs.Outsiders.{unsigned}
+use Rattle.replay_world.specs.Outsiders.{all_pass, idle, by, unasked}
 use Rattle.replay_world.proofs.Parts.{StoreStays, Idles}
 use Rattle.replay_world.specs.declared.world.Site.{Site}
 use Rattle.replay_world.specs.declared.world.World.{World}
@@ -56,10 +56,10 @@ sites_more old new site more = ap sites_view more ∙ map-append site_view old (
 
 pub idles_added : (old new : World) (number : ℕ) (text : List ℕ) (site : Site)
     → is_some (plmn_at (sites_view old.sites) site.node) ≡ false → text ≡ answer_text number (Fine (codes "node")) → new.sites ≡ old.sites ++ site ∷ [] → new.wire ≡ old.wire → StoreStays old.store new.store
-    → Idles (λ s f. step s (unsigned f) (AddNode site.node site.plmn)) old new number (Ok text)
+    → Idles (unasked (AddNode site.node site.plmn)) old new number (Ok text)
 idles_added old new number text site unknown is sites wire store = record {
   step = adds_node (state_of old []) site.node site.plmn;
-  same = λ records f. node_is_new (state_of old records) (unsigned f) site.node site.plmn unknown;
+  same = λ records f. node_is_new all_pass (state_of old records) (by idle f) site.node site.plmn unknown;
   puts_none = refl;
   told = (is, refl);
   sites = sites_more old.sites new.sites site sites;
@@ -73,10 +73,10 @@ forgotten old new records stale = record { fresh = λ e. cc; records = records }
 
 pub idles_restarted : (old new : World) (number : ℕ) (text node : List ℕ)
     → is_some (plmn_at (sites_view old.sites) node) ≡ true → text ≡ answer_text number (Fine (codes "restart")) → new.sites ≡ old.sites → new.wire ≡ old.wire → StoreStays old.store new.store
-    → Idles (λ s f. step s (unsigned f) (Restart node)) old new number (Ok text)
+    → Idles (unasked (Restart node)) old new number (Ok text)
 idles_restarted old new number text node known is sites wire store = record {
   step = does (state_of old []) (codes "restart");
-  same = λ records f. restarts (state_of old records) (unsigned f) node known;
+  same = λ records f. restarts all_pass (state_of old records) (by idle f) node known;
   puts_none = refl;
   told = (is, refl);
   sites = ap sites_view sites;

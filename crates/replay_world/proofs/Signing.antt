@@ -73,7 +73,7 @@ passed_done before after_ old new number text ipx wire operations t d found room
       signing = Signs m.signer;
       meant = m.is;
       holds = alone_done _ old new number text
-          (idles_made _ old new number text d (λ records f. passed_goes_on (state_of old records) (by (Signs m.signer) f) ipx wire operations t d m.signer refl found room good) is more)
+          (idles_made _ old new number text d (λ records f. passed_goes_on all_pass (state_of old records) (by (Signs m.signer) f) ipx wire operations t d m.signer refl found room good) is more)
           (sound_more old new d more low sound);
     }
 
@@ -87,7 +87,7 @@ passed_formless before after_ old number ipx wire operations t part found room p
       signing = Signs m.signer;
       meant = m.is;
       holds = alone_refused _ old number (refusals.Form part) (λ e. cc) sound
-          (λ records f. passed_refused (state_of old records) (by (Signs m.signer) f) ipx wire operations t (part_name part) m.signer refl found room bad);
+          (λ records f. passed_refused all_pass (state_of old records) (by (Signs m.signer) f) ipx wire operations t (part_name part) m.signer refl found room bad);
     }
 
 -- a document that is passed on is as shallow as those on the wire
@@ -107,7 +107,7 @@ passed_unasked before after_ old number ipx wire operations t found room asked r
       signing = SignerFails;
       meant = rose;
       holds = alone_refused _ old number refusals.Signer (λ e. cc) sound
-          (λ records f. passed_unsigned (state_of old records) (by SignerFails f) ipx wire operations t parts.0 refl found room parts.1);
+          (λ records f. passed_unsigned all_pass (state_of old records) (by SignerFails f) ipx wire operations t parts.0 refl found room parts.1);
     }
 
 pub passed_not : (before after_ : OfSigner) (old : World) (number : ℕ) (ipx : List ℕ) (wire : ℤ) (operations t : Tree) (e : PassFault) → wire_at old.wire wire ≡ Some t → is_full old.wire ≡ false

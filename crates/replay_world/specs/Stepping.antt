@@ -7,13 +7,13 @@ use Rattle.n32_values.specs.declared.memory.NoMemory.{NoMemory}
 use Rattle.context_store.specs.Stores.{Stored, Holds, IsFirstBad}
 use Rattle.context_store.specs.Changes.{Keeps, Change}
 use Rattle.spec_exchange.specs.Outside.{Choice, Read, BadRecord}
-use Rattle.spec_script.specs.Steps.{State, Answer, Step, Refuses, with_sent, line_step}
+use Rattle.spec_script.specs.Steps.{State, Answer, Step, Refuses, with_sent}
 use Rattle.spec_script.specs.Answers.{answer_text}
 use Rattle.spec_script.specs.Output.{has_refusal, is_keeper_refusal}
 use Rattle.n32_outside.specs.Causes.{Rose}
 use Rattle.script_lines.specs.View.{refusal_view}
-use Rattle.spec_script.specs.Choices.{Signing}
-use Rattle.replay_world.specs.Outsiders.{by}
+use Rattle.spec_exchange.specs.Screens.{Passes}
+use Rattle.replay_world.specs.Outsiders.{Acting, line_steps}
 use Rattle.replay_world.specs.Worlds.{sites_view, state_of}
 use Rattle.replay_world.specs.declared.world.World.{World}
 use Rattle.script_lines.specs.declared.unanswered.Unanswered.{Unanswered}
@@ -77,7 +77,7 @@ pub record TellsText (before after_ : ℕ) (number : ℕ) (text : List ℕ) (a :
   pub text_is : text ≡ answer_text number a
   pub failed : has_refusal is_keeper_refusal a ≡ true → Rose before after_
 
--- the step of a line, under this signing
-abbrev pub LineComes : Signing → (held now : Option (List (List ℕ))) → (before after_ : ℕ) → (old new : World) → (number : ℕ) → (line : List ℕ) → Result (List ℕ) NoMemory → Type 0
-LineComes x held now before after_ old new number line (Ok text) = StepBy (λ s f. line_step s (by x f) line) held old (Makes (TellsText before after_ number text) held now old.wire new)
-LineComes x held now before after_ old new number line (Err e) = GivesUp (λ s f. line_step s (by x f) line) held now old new
+-- the step of a line behind a screen, where signer and verifier act so
+abbrev pub LineComes : Passes → Acting → (held now : Option (List (List ℕ))) → (before after_ : ℕ) → (old new : World) → (number : ℕ) → (line : List ℕ) → Result (List ℕ) NoMemory → Type 0
+LineComes passes x held now before after_ old new number line (Ok text) = StepBy (line_steps passes x line) held old (Makes (TellsText before after_ number text) held now old.wire new)
+LineComes passes x held now before after_ old new number line (Err e) = GivesUp (line_steps passes x line) held now old new

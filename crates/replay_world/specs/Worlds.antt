@@ -10,9 +10,9 @@ use Rattle.spec_script.specs.Refusals.{OfOutside}
 use Rattle.spec_script.specs.Steps as spec
 use Rattle.spec_script.specs.Steps.{State, Refuses, after, line_step, plmn_at}
 use Rattle.spec_script.specs.Answers.{answer_text}
-use Rattle.spec_script.specs.Output.{has_refusal, is_keeper_refusal, is_signer_refusal}
+use Rattle.spec_script.specs.Output.{has_refusal, is_keeper_refusal, is_signer_refusal, is_verifier_refusal}
 use Rattle.context_store.specs.Stores.{AreRecords, IsConsistent, IsFirstBad}
-use Rattle.replay_world.specs.Outsiders.{Told, IsMeant}
+use Rattle.replay_world.specs.Outsiders.{Told, IsActing}
 use Rattle.replay_world.specs.declared.world.Site.{Site}
 use Rattle.replay_world.specs.declared.world.World.{World}
 
@@ -57,21 +57,23 @@ pub record TellsRecords (held : Option (List (List ℕ))) (records : List Record
   pub told : held ≡ Some texts
   pub are : AreRecords texts records
 
--- the line of this number is answered over these records: by the step of the line under some choices of keeper and signer
+-- the line of this number is answered over these records: by the step of the line behind the screen, under some choices of keeper, signer and verifier
 pub record StepsOver (before after_ : Told) (old new : World) (texts : List (List ℕ)) (records : List Record) (number : ℕ) (line text : List ℕ) : Type 0 where
   pub choice : Choices
-  -- what is signed is as the signer tells
-  pub meant : IsMeant before.signer.algorithm before.signer.meaning before.signer.faults after_.signer.faults choice.signer
-  pub text_is : text ≡ answer_text number (line_step (state_of old records) choice line).answer
+  -- what is signed and verified is as signer and verifier tell
+  pub meant : IsActing before.others after_.others (record { signer = choice.signer; verifier = choice.verifier })
+  pub text_is : text ≡ answer_text number (line_step before.others.screen (state_of old records) choice line).answer
   -- the world, over what is held then, is the state after the step
-  pub state_is : state_of new (with_put records (line_step (state_of old records) choice line).put) ≡ after (state_of old records) (line_step (state_of old records) choice line)
-  pub held_is : TellsRecords after_.held (with_put records (line_step (state_of old records) choice line).put)
+  pub state_is : state_of new (with_put records (line_step before.others.screen (state_of old records) choice line).put) ≡ after (state_of old records) (line_step before.others.screen (state_of old records) choice line)
+  pub held_is : TellsRecords after_.held (with_put records (line_step before.others.screen (state_of old records) choice line).put)
   -- a fault of the keeper is told only where its count rose
-  pub failed : has_refusal is_keeper_refusal (line_step (state_of old records) choice line).answer ≡ true → Rose before.keeper_faults after_.keeper_faults
-  -- and one of the signer only where that one's rose
-  pub unsigned : has_refusal is_signer_refusal (line_step (state_of old records) choice line).answer ≡ true → Rose before.signer.faults after_.signer.faults
+  pub failed : has_refusal is_keeper_refusal (line_step before.others.screen (state_of old records) choice line).answer ≡ true → Rose before.keeper_faults after_.keeper_faults
+  -- one of the signer only where that one's rose
+  pub unsigned : has_refusal is_signer_refusal (line_step before.others.screen (state_of old records) choice line).answer ≡ true → Rose before.others.signer.faults after_.others.signer.faults
+  -- and one of the verifier only where that one's rose
+  pub unverified : has_refusal is_verifier_refusal (line_step before.others.screen (state_of old records) choice line).answer ≡ true → Rose before.others.verifier.faults after_.others.verifier.faults
   -- a bad record is told only where it is the first
-  pub journal : (k : ℕ) → (line_step (state_of old records) choice line).answer ≡ Refuses (OfOutside (Journal k)) → IsFirstBad texts k
+  pub journal : (k : ℕ) → (line_step before.others.screen (state_of old records) choice line).answer ≡ Refuses (OfOutside (Journal k)) → IsFirstBad texts k
 
 -- where the keeper tells texts that are all records
 abbrev pub Steps : (before after_ : Told) → (old new : World) → (number : ℕ) → (line text : List ℕ) → Type 0

@@ -11,7 +11,7 @@ ghost use Rattle.spec_script.specs.Steps as spec;
 ghost use Rattle.spec_documents.specs.Gives.{Gives};
 ghost use Rattle.script_lines.specs.Unanswered.{SparesKeeper, told_refusal};
 ghost use Rattle.replay_world.specs.Worlds.{IsReady};
-ghost use Rattle.replay_world.specs.Outsiders.{unsigned};
+ghost use Rattle.replay_world.specs.Outsiders.{unasked};
 ghost use Rattle.replay_world.specs.Handling.{Handles};
 ghost use Rattle.replay_world.specs.Handing.{context_to_open, keys_may_come, keys_new, opens_new, puts_record};
 ghost use Rattle.replay_world.specs.Fitting.{IsFit};
@@ -123,7 +123,7 @@ pub(crate) fn hand_in_context<K: Keeper>(
 ) -> Result<Bytes, Unanswered>
     requires ready { IsReady (K.held keeper.old) world.old }
     requires fit { IsFit (AddContext (handed_view handed)) }
-    ensures { Handles (λ s f. spec.step s (unsigned f) (AddContext (handed_view handed)))
+    ensures { Handles (unasked (AddContext (handed_view handed)))
         (K.held keeper.old) (K.held keeper.new) (K.faults keeper.old) (K.faults keeper.new) world.old world.new number result }
 {
     if !is_known(&world.sites, &handed.node) {
@@ -194,7 +194,7 @@ pub(crate) fn hand_in_keys<K: Keeper>(
 ) -> Result<Bytes, Unanswered>
     requires ready { IsReady (K.held keeper.old) world.old }
     requires name { IsTrue (is_node_name node) }
-    ensures { Handles (λ s f. spec.step s (unsigned f) (AddKeys node id.value (key_set_view keys)))
+    ensures { Handles (unasked (AddKeys node id.value (key_set_view keys)))
         (K.held keeper.old) (K.held keeper.new) (K.faults keeper.old) (K.faults keeper.new) world.old world.new number result }
 {
     if !is_known(&world.sites, &node) {

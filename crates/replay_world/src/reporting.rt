@@ -5,7 +5,7 @@ ghost use Rattle.receiving_sepp.specs.Views.{refused_view};
 ghost use Rattle.spec_script.specs.Events.{Reported};
 ghost use Rattle.spec_script.specs.Reports as reports;
 ghost use Rattle.spec_script.specs.Steps as spec;
-ghost use Rattle.replay_world.specs.Outsiders.{unsigned};
+ghost use Rattle.replay_world.specs.Outsiders.{unasked};
 ghost use Rattle.replay_world.specs.Worlds.{IsShallow, IsSound};
 ghost use Rattle.replay_world.specs.Handling.{HandlesAlone};
 
@@ -48,7 +48,7 @@ pub(crate) fn reported(
 ) -> Result<Bytes, Unanswered>
     requires sound { IsSound world.old }
     requires shallow { IsShallow (tree_of document) }
-    ensures { HandlesAlone (λ s f. spec.step s (unsigned f) (Reported node.now (tree_of document))) world.old world.new number result }
+    ensures { HandlesAlone (unasked (Reported node.now (tree_of document))) world.old world.new number result }
 {
     if !is_known(&world.sites, node) {
         return Err(Unanswered::Refused(Refusal::NodeUnknown));

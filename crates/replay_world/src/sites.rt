@@ -2,7 +2,7 @@
 ghost use Rattle.std.specs.Prelude.{◌≡◌, is_some};
 ghost use Rattle.spec_script.specs.Events.{AddNode, Restart};
 ghost use Rattle.spec_script.specs.Steps as spec;
-ghost use Rattle.replay_world.specs.Outsiders.{unsigned};
+ghost use Rattle.replay_world.specs.Outsiders.{unasked};
 ghost use Rattle.replay_world.specs.Worlds.{IsSound, sites_view};
 ghost use Rattle.replay_world.specs.Handling.{HandlesAlone};
 
@@ -32,7 +32,7 @@ pub(crate) fn add_node(
     plmn: PlmnId,
 ) -> Result<Bytes, Unanswered>
     requires { IsSound world.old }
-    ensures { HandlesAlone (λ s f. spec.step s (unsigned f) (AddNode node plmn)) world.old world.new number result }
+    ensures { HandlesAlone (unasked (AddNode node plmn)) world.old world.new number result }
 {
     if is_known(&world.sites, &node) {
         return Err(Unanswered::Refused(Refusal::NodeExists));
@@ -50,7 +50,7 @@ pub(crate) fn restart(
     node: &Text,
 ) -> Result<Bytes, Unanswered>
     requires { IsSound world.old }
-    ensures { HandlesAlone (λ s f. spec.step s (unsigned f) (Restart node.now)) world.old world.new number result }
+    ensures { HandlesAlone (unasked (Restart node.now)) world.old world.new number result }
 {
     if !is_known(&world.sites, node) {
         return Err(Unanswered::Refused(Refusal::NodeUnknown));

@@ -11,7 +11,9 @@ ghost use Rattle.spec_exchange.specs.Calls.{kind_of_outgoing, sends};
 ghost use Rattle.spec_script.specs.Steps as spec;
 ghost use Rattle.spec_documents.specs.Gives.{Gives};
 ghost use Rattle.script_lines.specs.Unanswered.{SparesKeeper, told_refusal};
-ghost use Rattle.replay_world.specs.Outsiders.{unsigned as without_signer};
+ghost use Rattle.entry_checks.specs.Verifiers.{UnderVerifier};
+ghost use Rattle.message_screens.specs.Screening.{IsScreen, rule_of};
+ghost use Rattle.replay_world.specs.Outsiders.{VerifierStays, event_steps, of_verifier, unasked, verifies};
 ghost use Rattle.replay_world.specs.Worlds.{IsReady, IsShallow, IsSound};
 ghost use Rattle.replay_world.specs.Handling.{Handles, HandlesAlone};
 ghost use Rattle.replay_world.specs.Sending.{outgoing_view};
@@ -23,8 +25,9 @@ use crate::world::World;
 use block_forms::LimitName;
 use context_store::Store;
 use http_message::{Kind, Message};
-use n32_outside::Keeper;
-use n32_values::{Bytes, Doc, Hex64, Node, Text, Whole};
+use message_screens::{Screen, ScreenRule};
+use n32_outside::{Keeper, Verifier};
+use n32_values::{Bytes, Doc, Hex64, Node, PlmnId, Text, Whole};
 use receiving_sepp::accept;
 use script_lines::{Refusal, Unanswered, delivered_text, read_line_message};
 use sending_sepp::{ProtectFault, protect, protect_reply};
@@ -137,7 +140,7 @@ pub(crate) fn send<K: Keeper>(
     answers: Option<Hex64>,
 ) -> Result<Bytes, Unanswered>
     requires { IsReady (K.held keeper.old) world.old }
-    ensures { Handles (λ s f. spec.step s (without_signer f) (Send node.now id.value (tree_of message.now) (option_map (λ i. i.value) answers)))
+    ensures { Handles (unasked (Send node.now id.value (tree_of message.now) (option_map (λ i. i.value) answers)))
         (K.held keeper.old) (K.held keeper.new) (K.faults keeper.old) (K.faults keeper.new) world.old world.new number result }
 {
     if !is_known(&world.sites, node) {
@@ -163,7 +166,7 @@ pub(crate) fn inject(
 ) -> Result<Bytes, Unanswered>
     requires sound { IsSound world.old }
     requires shallow { IsShallow (tree_of document) }
-    ensures { HandlesAlone (λ s f. spec.step s (without_signer f) (Inject (tree_of document))) world.old world.new number result }
+    ensures { HandlesAlone (unasked (Inject (tree_of document))) world.old world.new number result }
 {
     if is_full(world) {
         return Err(Unanswered::Refused(Refusal::Limit(LimitName::Wire)));
@@ -175,17 +178,27 @@ pub(crate) fn inject(
 }
 
 /// A document on the wire reaches a node, which accepts it or not. A refusal is told with its report.
-pub(crate) fn deliver<K: Keeper>(
+pub(crate) fn deliver<
+    K: Keeper,
+    V: Verifier,
+    R: ScreenRule,
+    F: Fn(&Message, &PlmnId) -> bool,
+>(
     alloc: Global,
     world: &mut World,
     keeper: &mut K,
+    verifier: &mut V,
+    screen: &Screen<F, R>,
     number: u64,
     node: &Text,
     wire: &Whole,
 ) -> Result<Bytes, Unanswered>
-    requires { IsReady (K.held keeper.old) world.old }
-    ensures { Handles (λ s f. spec.step s (without_signer f) (Deliver node.now wire.now))
-        (K.held keeper.old) (K.held keeper.new) (K.faults keeper.old) (K.faults keeper.new) world.old world.new number result }
+    requires ready { IsReady (K.held keeper.old) world.old }
+    requires follows { IsScreen F.Fn R.passes screen.now }
+    ensures handles { UnderVerifier (V.meaning verifier.old) (V.faults verifier.old) (V.faults verifier.new)
+        (λ v. Handles (event_steps (R.passes (rule_of screen.now)) (verifies v) (Deliver node.now wire.now))
+        (K.held keeper.old) (K.held keeper.new) (K.faults keeper.old) (K.faults keeper.new) world.old world.new number result) }
+    ensures verifier { VerifierStays (of_verifier (V.meaning verifier.old) (V.faults verifier.old)) (of_verifier (V.meaning verifier.new) (V.faults verifier.new)) }
 {
     if !is_known(&world.sites, node) {
         return Err(Unanswered::Refused(Refusal::NodeUnknown));
@@ -194,7 +207,15 @@ pub(crate) fn deliver<K: Keeper>(
         Some(document) => document,
         None => return Err(Unanswered::Refused(Refusal::WireUnknown)),
     };
-    match accept(alloc, &mut world.store, keeper, node, document) {
+    match accept(
+        alloc,
+        &mut world.store,
+        keeper,
+        verifier,
+        screen,
+        node,
+        document,
+    ) {
         Ok(delivered) => {
             match delivered_text(alloc, number, delivered.message, delivered.id) {
                 Ok(text) => Ok(text),

@@ -17,14 +17,14 @@ pub returns-in-None-clause-handles : goal.returns-in-None-clause-handles
 returns-in-None-clause-handles g c =
     let none : spec.wire_at c.args.world.now.wire c.args.wire.now ≡ None = sym c.in-None.ensures in
     signed_any _ _ _ λ x. alone_refused (λ s f. spec.step s (by x f) (Pass c.args.ipx c.args.wire.now (tree_of c.args.operations))) c.args.world.now c.args.number refusals.WireUnknown (λ e. cc) c.requires.sound
-    (λ records f. passed_none (state_of c.args.world.now records) (by x f) c.args.ipx c.args.wire.now (tree_of c.args.operations) none)
+    (λ records f. passed_none all_pass (state_of c.args.world.now records) (by x f) c.args.ipx c.args.wire.now (tree_of c.args.operations) none)
 
 pub returns-then-is_full-clause-handles : goal.returns-then-is_full-clause-handles
 returns-then-is_full-clause-handles g c =
     let found : spec.wire_at c.args.world.now.wire c.args.wire.now ≡ Some c.in-Some.document.now = sym c.in-Some.ensures in
     let full : spec.is_full c.args.world.now.wire ≡ true = cc in
     signed_any _ _ _ λ x. alone_refused (λ s f. spec.step s (by x f) (Pass c.args.ipx c.args.wire.now (tree_of c.args.operations))) c.args.world.now c.args.number (refusals.Limit limits.Wire) (λ e. cc) c.requires.sound
-    (λ records f. passed_full (state_of c.args.world.now records) (by x f) c.args.ipx c.args.wire.now (tree_of c.args.operations) c.in-Some.document.now found full)
+    (λ records f. passed_full all_pass (state_of c.args.world.now records) (by x f) c.args.ipx c.args.wire.now (tree_of c.args.operations) c.in-Some.document.now found full)
 
 pub returns-in-Ok-put_made-clause-handles : goal.returns-in-Ok-put_made-clause-handles
 returns-in-Ok-put_made-clause-handles g c =
