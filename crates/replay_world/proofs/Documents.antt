@@ -4,10 +4,13 @@ use Rattle.spec_documents.specs.Tree.{Tree}
 use Rattle.spec_messages.specs.Message.{Message}
 use Rattle.spec_records.specs.Records.{Record}
 use Rattle.http_message.specs.Reading.{message_view}
-use Rattle.spec_exchange.specs.ReceivingRefusals as receiving
+use Rattle.spec_exchange.specs.AcceptRefusals as receiving
 use Rattle.spec_exchange.specs.SendingRefusals as sending
-use Rattle.spec_exchange.specs.Outside.{Choice, Journal, Keeper, Cause, Own, Outside}
-use Rattle.spec_exchange.specs.Calls.{Sealed, Outgoing, accepted, sends}
+use Rattle.spec_exchange.specs.Outside.{Choice, Journal, Keeper, Cause, Own, Outside, Outcome}
+use Rattle.spec_exchange.specs.Calls.{Sealed, Outgoing, sends}
+use Rattle.spec_exchange.specs.AcceptCalls.{accepted}
+use Rattle.spec_exchange.specs.EntryChecks.{Verifying}
+use Rattle.spec_exchange.specs.Screens.{Passes}
 use Rattle.spec_exchange.specs.FirstFailed.{Delivery}
 use Rattle.spec_script.specs.Refusals.{OfSending, OfReceiving, of_cause}
 use Rattle.spec_script.specs.Events.{Inject, Reported}
@@ -42,61 +45,65 @@ use Rattle.replay_world.proofs.EventSteps.{given_goes_on, report_told}
 
 -- ---- delivering
 
+-- the call that accepts, behind a screen and with a verifier
+abbrev pub taken : Passes → Verifying → (node : List ℕ) → Tree → Choice → List Record → Outcome receiving.Refusal Delivery
+taken passes v node t f records = accepted passes (record { keeper = f; verifier = v }) records node t
+
 told_delivered : (t : Tree) (number : ℕ) (text : List ℕ) (x : Delivered) (r : Result Delivery (Cause receiving.Refusal)) → received.Answers (Ok x) r → text ≡ texts.delivered_answer number (message_view x.message) x.id.value → Tells number (Ok text) (delivery_answer t r)
 told_delivered t number text x r a is =
     subst (λ (z : Result Delivery (Cause receiving.Refusal)). Tells number (Ok text) (delivery_answer t z)) (sym a.1) (is ∙ ap₂ (texts.delivered_answer number) a.2.message a.2.id, refl)
 
 -- the wire and the nodes stay
-pub comes_delivered : (steps : State → Choice → Step) (held now : Option (List (List ℕ))) (old new : World) (number : ℕ) (text node : List ℕ) (t : Tree) (x : Delivered)
-    → received.Accepts held now old.store new.store node t (Ok x) → ((records : List Record) (f : Choice) → steps (state_of old records) f ≡ delivers (state_of old records) t (accepted f records node t))
+pub comes_delivered : (passes : Passes) (v : Verifying) (steps : State → Choice → Step) (held now : Option (List (List ℕ))) (old new : World) (number : ℕ) (text node : List ℕ) (t : Tree) (x : Delivered)
+    → received.Accepts passes v held now old.store new.store node t (Ok x) → ((records : List Record) (f : Choice) → steps (state_of old records) f ≡ delivers (state_of old records) t (taken passes v node t f records))
     → new.sites ≡ old.sites → new.wire ≡ old.wire → text ≡ texts.delivered_answer number (message_view x.message) x.id.value → Comes steps held now old new number (Ok text)
-comes_delivered steps held now old new number text node t x h same sites wire is =
-    by_call (λ f records. accepted f records node t) (received.Answers (Ok x)) steps (λ s o. delivers s t o) held now old new.store (Makes (Tells number (Ok text)) held now old.wire new) h same
+comes_delivered passes v steps held now old new number text node t x h same sites wire is =
+    by_call (taken passes v node t) (received.Answers (Ok x)) steps (λ s o. delivers s t o) held now old new.store (Makes (Tells number (Ok text)) held now old.wire new) h same
     (λ records o a change. record { told = told_delivered t number text x o.result a is; sites = ap sites_view sites; sent = wire; change = change })
 
-pub delivery_gives_up : (steps : State → Choice → Step) (held now : Option (List (List ℕ))) (old new : World) (node : List ℕ) (t : Tree) (x : Delivered)
-    → received.Accepts held now old.store new.store node t (Ok x) → ((records : List Record) (f : Choice) → steps (state_of old records) f ≡ delivers (state_of old records) t (accepted f records node t))
+pub delivery_gives_up : (passes : Passes) (v : Verifying) (steps : State → Choice → Step) (held now : Option (List (List ℕ))) (old new : World) (node : List ℕ) (t : Tree) (x : Delivered)
+    → received.Accepts passes v held now old.store new.store node t (Ok x) → ((records : List Record) (f : Choice) → steps (state_of old records) f ≡ delivers (state_of old records) t (taken passes v node t f records))
     → new.sites ≡ old.sites → new.wire ≡ old.wire → GivesUp steps held now old new
-delivery_gives_up steps held now old new node t x h same sites wire = record {
+delivery_gives_up passes v steps held now old new node t x h same sites wire = record {
   sites = ap sites_view sites;
   wire = wire;
-  kept = inr (by_call (λ f records. accepted f records node t) (received.Answers (Ok x)) steps (λ s o. delivers s t o) held now old new.store (HasPut held now) h same (λ records r a change. change.told));
+  kept = inr (by_call (taken passes v node t) (received.Answers (Ok x)) steps (λ s o. delivers s t o) held now old new.store (HasPut held now) h same (λ records r a change. change.told));
 }
 
 -- a document that is refused
-undelivered_by : (steps : State → Choice → Step) (held now : Option (List (List ℕ))) (old new : World) (number : ℕ) (node : List ℕ) (t : Tree) (e : AcceptFault) (c : Cause receiving.Refusal) (refusal : Refusal)
+undelivered_by : (passes : Passes) (v : Verifying) (steps : State → Choice → Step) (held now : Option (List (List ℕ))) (old new : World) (number : ℕ) (node : List ℕ) (t : Tree) (e : AcceptFault) (c : Cause receiving.Refusal) (refusal : Refusal)
     → ((r : Result Delivery (Cause receiving.Refusal)) → received.Answers (Err e) r → r ≡ Err c) → of_cause (λ d. OfReceiving d (report_on t d)) c ≡ refusal_view refusal
-    → CallBy (λ f records. accepted f records node t) (received.Answers (Err e)) held now old.store new.store → ((records : List Record) (f : Choice) → steps (state_of old records) f ≡ delivers (state_of old records) t (accepted f records node t))
+    → CallBy (taken passes v node t) (received.Answers (Err e)) held now old.store new.store → ((records : List Record) (f : Choice) → steps (state_of old records) f ≡ delivers (state_of old records) t (taken passes v node t f records))
     → new.sites ≡ old.sites → new.wire ≡ old.wire → Comes steps held now old new number (Err (unanswered.Refused refusal))
-undelivered_by steps held now old new number node t e c refusal is view h same sites wire =
-    by_call (λ f records. accepted f records node t) (received.Answers (Err e)) steps (λ s o. delivers s t o) held now old new.store (Makes (Tells number (Err (unanswered.Refused refusal))) held now old.wire new) h same
+undelivered_by passes v steps held now old new number node t e c refusal is view h same sites wire =
+    by_call (taken passes v node t) (received.Answers (Err e)) steps (λ s o. delivers s t o) held now old new.store (Makes (Tells number (Err (unanswered.Refused refusal))) held now old.wire new) h same
     (λ records o a change. record { told = ap (delivery_answer t) (is o.result a) ∙ ap Refuses view; sites = ap sites_view sites; sent = wire; change = change })
 
-pub comes_undelivered : (steps : State → Choice → Step) (held now : Option (List (List ℕ))) (old new : World) (number : ℕ) (node : List ℕ) (t : Tree) (e : AcceptFault)
-    → received.Accepts held now old.store new.store node t (Err e) → ((records : List Record) (f : Choice) → steps (state_of old records) f ≡ delivers (state_of old records) t (accepted f records node t))
+pub comes_undelivered : (passes : Passes) (v : Verifying) (steps : State → Choice → Step) (held now : Option (List (List ℕ))) (old new : World) (number : ℕ) (node : List ℕ) (t : Tree) (e : AcceptFault)
+    → received.Accepts passes v held now old.store new.store node t (Err e) → ((records : List Record) (f : Choice) → steps (state_of old records) f ≡ delivers (state_of old records) t (taken passes v node t f records))
     → new.sites ≡ old.sites → new.wire ≡ old.wire → Comes steps held now old new number (Err (of_receiving t e))
-comes_undelivered steps held now old new number node t (accepting.Refused r) h same sites wire = undelivered_by steps held now old new number node t (accepting.Refused r) (Own (refused_view r)) (refusals.Receiving r (report_on t (refused_view r))) (λ r a. a) refl h same sites wire
-comes_undelivered steps held now old new number node t (accepting.Journal k) h same sites wire = undelivered_by steps held now old new number node t (accepting.Journal k) (Outside (Journal k)) (refusals.Journal k) (λ r a. a) refl h same sites wire
-comes_undelivered steps held now old new number node t accepting.Keeper h same sites wire = undelivered_by steps held now old new number node t accepting.Keeper (Outside Keeper) refusals.Keeper (λ r a. a) refl h same sites wire
-comes_undelivered steps held now old new number node t accepting.NoMemory h same sites wire = gives_up_idly steps held now old new sites wire h.told
+comes_undelivered passes v steps held now old new number node t (accepting.Refused r) h same sites wire = undelivered_by passes v steps held now old new number node t (accepting.Refused r) (Own (refused_view r)) (refusals.Receiving r (report_on t (refused_view r))) (λ r a. a) refl h same sites wire
+comes_undelivered passes v steps held now old new number node t (accepting.Journal k) h same sites wire = undelivered_by passes v steps held now old new number node t (accepting.Journal k) (Outside (Journal k)) (refusals.Journal k) (λ r a. a) refl h same sites wire
+comes_undelivered passes v steps held now old new number node t accepting.Keeper h same sites wire = undelivered_by passes v steps held now old new number node t accepting.Keeper (Outside Keeper) refusals.Keeper (λ r a. a) refl h same sites wire
+comes_undelivered passes v steps held now old new number node t accepting.NoMemory h same sites wire = gives_up_idly steps held now old new sites wire h.told
 
-gives_up_by_call : (steps : State → Choice → Step) (held now : Option (List (List ℕ))) (old new : World) (node : List ℕ) (t : Tree) (e : AcceptFault)
-    → CallBy (λ f records. accepted f records node t) (received.Answers (Err e)) held now old.store new.store → ((records : List Record) (f : Choice) → steps (state_of old records) f ≡ delivers (state_of old records) t (accepted f records node t))
+gives_up_by_call : (passes : Passes) (v : Verifying) (steps : State → Choice → Step) (held now : Option (List (List ℕ))) (old new : World) (node : List ℕ) (t : Tree) (e : AcceptFault)
+    → CallBy (taken passes v node t) (received.Answers (Err e)) held now old.store new.store → ((records : List Record) (f : Choice) → steps (state_of old records) f ≡ delivers (state_of old records) t (taken passes v node t f records))
     → new.sites ≡ old.sites → new.wire ≡ old.wire → GivesUp steps held now old new
-gives_up_by_call steps held now old new node t e h same sites wire = record {
+gives_up_by_call passes v steps held now old new node t e h same sites wire = record {
   sites = ap sites_view sites;
   wire = wire;
-  kept = inr (by_call (λ f records. accepted f records node t) (received.Answers (Err e)) steps (λ s o. delivers s t o) held now old new.store (HasPut held now) h same (λ records o a change. change.told));
+  kept = inr (by_call (taken passes v node t) (received.Answers (Err e)) steps (λ s o. delivers s t o) held now old new.store (HasPut held now) h same (λ records o a change. change.told));
 }
 
 -- where memory was refused for a report, the document was refused
-pub refusal_gives_up : (steps : State → Choice → Step) (held now : Option (List (List ℕ))) (old new : World) (node : List ℕ) (t : Tree) (e : AcceptFault)
-    → received.Accepts held now old.store new.store node t (Err e) → ((records : List Record) (f : Choice) → steps (state_of old records) f ≡ delivers (state_of old records) t (accepted f records node t))
+pub refusal_gives_up : (passes : Passes) (v : Verifying) (steps : State → Choice → Step) (held now : Option (List (List ℕ))) (old new : World) (node : List ℕ) (t : Tree) (e : AcceptFault)
+    → received.Accepts passes v held now old.store new.store node t (Err e) → ((records : List Record) (f : Choice) → steps (state_of old records) f ≡ delivers (state_of old records) t (taken passes v node t f records))
     → new.sites ≡ old.sites → new.wire ≡ old.wire → GivesUp steps held now old new
-refusal_gives_up steps held now old new node t accepting.NoMemory h same sites wire = gives_up_idly steps held now old new sites wire h.told
-refusal_gives_up steps held now old new node t (accepting.Refused r) h same sites wire = gives_up_by_call steps held now old new node t (accepting.Refused r) h same sites wire
-refusal_gives_up steps held now old new node t (accepting.Journal k) h same sites wire = gives_up_by_call steps held now old new node t (accepting.Journal k) h same sites wire
-refusal_gives_up steps held now old new node t accepting.Keeper h same sites wire = gives_up_by_call steps held now old new node t accepting.Keeper h same sites wire
+refusal_gives_up passes v steps held now old new node t accepting.NoMemory h same sites wire = gives_up_idly steps held now old new sites wire h.told
+refusal_gives_up passes v steps held now old new node t (accepting.Refused r) h same sites wire = gives_up_by_call passes v steps held now old new node t (accepting.Refused r) h same sites wire
+refusal_gives_up passes v steps held now old new node t (accepting.Journal k) h same sites wire = gives_up_by_call passes v steps held now old new node t (accepting.Journal k) h same sites wire
+refusal_gives_up passes v steps held now old new node t accepting.Keeper h same sites wire = gives_up_by_call passes v steps held now old new node t accepting.Keeper h same sites wire
 
 -- ---- sending
 

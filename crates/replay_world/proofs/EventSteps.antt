@@ -11,7 +11,7 @@ use Rattle.spec_exchange.specs.Chain.{◌>>=◌, unless, or_refused}
 use Rattle.spec_messages.specs.Limits.{full_wire, many_records}
 use Rattle.spec_exchange.specs.Outside.{Choice, Read}
 use Rattle.spec_exchange.specs.Calls.{Outgoing, sends}
-use Rattle.spec_exchange.specs.AcceptCalls as accepting
+use Rattle.spec_exchange.specs.AcceptCalls.{accepted}
 use Rattle.spec_exchange.specs.Screens.{Passes}
 use Rattle.spec_documents.specs.Patch.{Op}
 use Rattle.spec_sealing.specs.Received.{Received}
@@ -102,7 +102,7 @@ stops s k h = ap (or_refuses s) (bind_err (room_on_wire s) (Beyond full_wire) (�
 pub no_document : (passes : Passes) (s : State) (f : Choices) (node : List ℕ) (wire : ℤ) → is_some (plmn_at s.sites node) ≡ true → wire_at s.wire wire ≡ None → step passes s f (Deliver node wire) ≡ refuses s WireUnknown
 no_document passes s f node wire h none = known s node _ h ∙ none_at s wire _ none
 
-pub delivers_document : (passes : Passes) (s : State) (f : Choices) (node : List ℕ) (wire : ℤ) (t : Tree) → is_some (plmn_at s.sites node) ≡ true → wire_at s.wire wire ≡ Some t → step passes s f (Deliver node wire) ≡ delivers s t (accepted f.keeper s.records node t)
+pub delivers_document : (passes : Passes) (s : State) (f : Choices) (node : List ℕ) (wire : ℤ) (t : Tree) → is_some (plmn_at s.sites node) ≡ true → wire_at s.wire wire ≡ Some t → step passes s f (Deliver node wire) ≡ delivers s t (accepted passes (record { keeper = f.keeper; verifier = f.verifier }) s.records node t)
 delivers_document passes s f node wire t h found = known s node _ h ∙ found_at s wire t _ found
 
 -- sending

@@ -11,16 +11,21 @@ use Rattle.spec_exchange.specs.Outside.{Choice, Reading, Read, ReadFails, BadRec
 use Rattle.n32_outside.specs.Causes.{Rose}
 use Rattle.spec_script.specs.Events.{line_event}
 use Rattle.spec_script.specs.Refusals.{Syntax, OtherNumber, BadEvent, NodeUnknown, NodeExists, WireUnknown, Beyond, KeysTwice, ContextNotFound, BadMessage, DeepBody, BadPolicy, ContextUsed, BadForm, BadReport, OfSending, OfReceiving, OfOutside, SignerFailed}
+use Rattle.spec_exchange.specs.EntryRefusals as entries
+use Rattle.spec_exchange.specs.EntryChecks.{Claim, Verdict, Fails, Verifying, verdict_of}
+use Rattle.spec_exchange.specs.AcceptRefusals as receiving
+use Rattle.spec_exchange.proofs.EntryLemmas.{FailsAt}
+use Rattle.entry_checks.specs.Verifiers.{Meaning, Saying, verdict, verifying}
 use Rattle.spec_script.specs.Choices.{Signing, Signs, SignerFails}
-use Rattle.spec_script.specs.Output.{has_refusal, is_signer_refusal}
-use Rattle.replay_world.specs.Outsiders.{OfSigner, Told, IsMeant, Signed, by}
+use Rattle.spec_script.specs.Output.{has_refusal, is_signer_refusal, is_verifier_refusal}
+use Rattle.replay_world.specs.Outsiders.{OfSigner, Told, Acting, IsMeant, IsVerified, IsActing, Acted, by, line_steps}
 use Rattle.spec_script.specs.Steps as spec
 use Rattle.spec_script.specs.Steps.{State, Answer, Fine, OnWire, Sends, Forwards, Delivers, Reports, Step, Refuses, after, with_sent, line_step}
 use Rattle.replay_world.specs.Worlds.{sites_view, state_of, TellsRecords, StepsOver, Steps}
 use Rattle.replay_world.specs.Stepping.{StepBy, Makes, TellsText, LineComes}
 use Rattle.replay_world.specs.declared.world.World.{World}
 use Rattle.replay_world.proofs.Unread.{line_same}
-use Rattle.replay_world.proofs.Journals.{line_tells, line_signs}
+use Rattle.replay_world.proofs.Journals.{line_tells, line_signs, line_verifies}
 
 -- ---- texts are of one list of records
 
@@ -93,12 +98,66 @@ rose_of : (before after_ : OfSigner) (x : Signing) → IsMeant before.algorithm 
 rose_of before after_ SignerFails meant is = meant
 rose_of before after_ (Signs g) meant is = cc
 
-steps_from : (texts : List (List ℕ)) (before after_ : Told) (old new : World) (records : List Record) (x : Signing) (f : Choice) (number : ℕ) (line text : List ℕ)
-    → IsMeant before.signer.algorithm before.signer.meaning before.signer.faults after_.signer.faults x
-    → AreRecords texts records → Leaves texts after_.held before.keeper_faults after_.keeper_faults old new number text (line_step (state_of old records) (by x f) line) → ((k : ℕ) → f.reading ≡ BadRecord k → IsFirstBad texts k)
+-- one refusal tells of the verifier
+record OfVerifier (a : Answer) : Type 0 where
+  number : ℕ
+  report : Option Tree
+  is : a ≡ Refuses (OfReceiving (receiving.OfEntry number entries.VerifierFailed) report)
+
+verifier_alone : (a : Answer) → has_refusal is_verifier_refusal a ≡ true → OfVerifier a
+verifier_alone (Fine name) h = cc
+verifier_alone (OnWire n) h = cc
+verifier_alone (Sends x n) h = cc
+verifier_alone (Forwards t n) h = cc
+verifier_alone (Delivers d) h = cc
+verifier_alone (Reports r) h = cc
+verifier_alone (Refuses Syntax) h = cc
+verifier_alone (Refuses OtherNumber) h = cc
+verifier_alone (Refuses (BadEvent member)) h = cc
+verifier_alone (Refuses NodeUnknown) h = cc
+verifier_alone (Refuses NodeExists) h = cc
+verifier_alone (Refuses WireUnknown) h = cc
+verifier_alone (Refuses (Beyond limit)) h = cc
+verifier_alone (Refuses KeysTwice) h = cc
+verifier_alone (Refuses ContextNotFound) h = cc
+verifier_alone (Refuses (BadMessage member)) h = cc
+verifier_alone (Refuses DeepBody) h = cc
+verifier_alone (Refuses (BadPolicy mapping)) h = cc
+verifier_alone (Refuses ContextUsed) h = cc
+verifier_alone (Refuses (BadForm member)) h = cc
+verifier_alone (Refuses BadReport) h = cc
+verifier_alone (Refuses (OfSending refusal)) h = cc
+verifier_alone (Refuses (OfReceiving (receiving.Receiving refusal) report)) h = cc
+verifier_alone (Refuses (OfReceiving receiving.Unasked report)) h = cc
+verifier_alone (Refuses (OfReceiving receiving.Screened report)) h = cc
+verifier_alone (Refuses (OfReceiving (receiving.OfEntry number (entries.BadForm member)) report)) h = cc
+verifier_alone (Refuses (OfReceiving (receiving.OfEntry number entries.OffRoute) report)) h = cc
+verifier_alone (Refuses (OfReceiving (receiving.OfEntry number entries.VerifierFailed) report)) h = record { number = number; report = report; is = refl }
+verifier_alone (Refuses (OfReceiving (receiving.OfEntry number entries.BadSignature) report)) h = cc
+verifier_alone (Refuses (OfReceiving (receiving.OfEntry number entries.OtherTag) report)) h = cc
+verifier_alone (Refuses (OfReceiving (receiving.OfEntry number (entries.NotAllowed op why)) report)) h = cc
+verifier_alone (Refuses (OfOutside fault)) h = cc
+verifier_alone (Refuses SignerFailed) h = cc
+
+-- a verifying that fails at an entry is meant only where the count rose
+told_or_not : (b : Bool) → verdict_of b ≡ Fails → ⊥
+told_or_not true e = cc
+told_or_not false e = cc
+
+rose_at : (told : Option Meaning) (said : ℕ → Bool) (failing : Option ℕ) (number : ℕ) (claim : Claim) (P : Type 0) → IfSome failing (λ n. P) → verifying told (record { said = said; failing = failing }) number claim ≡ Fails → P
+rose_at told said None number claim P h e = absurd (told_or_not _ e)
+rose_at told said (Some n) number claim P h e = h
+
+rose_by : (told : Option Meaning) (before after_ : ℕ) (v : Verifying) (number : ℕ) → IsVerified told before after_ v → FailsAt v number → Rose before after_
+rose_by told before after_ v number m f =
+    rose_at told m.saying.said m.saying.failing number f.0 (Rose before after_) m.failed (subst (λ (w : Verifying). w number f.0 ≡ Fails) m.is f.1)
+
+steps_from : (texts : List (List ℕ)) (before after_ : Told) (old new : World) (records : List Record) (x : Acting) (f : Choice) (number : ℕ) (line text : List ℕ)
+    → IsActing before.others after_.others x
+    → AreRecords texts records → Leaves texts after_.held before.keeper_faults after_.keeper_faults old new number text (line_step before.others.screen (state_of old records) (by x f) line) → ((k : ℕ) → f.reading ≡ BadRecord k → IsFirstBad texts k)
     → StepsOver before after_ old new texts records number line text
 steps_from texts before after_ old new records x f number line text meant are h bad =
-    let r = line_step (state_of old records) (by x f) line in
+    let r = line_step before.others.screen (state_of old records) (by x f) line in
     record {
       choice = by x f;
       meant = meant;
@@ -106,8 +165,9 @@ steps_from texts before after_ old new records x f number line text meant are h 
       state_is = state_is new r.sites (with_sent old.wire r.sent) (with_put records r.put) h.sites h.sent;
       held_is = tells_put texts after_.held records r.put are h.kept;
       failed = h.told.failed;
-      unsigned = λ e. rose_of before.signer after_.signer x meant (line_signs (state_of old records) (by x f) line (signer_alone r.answer e));
-      journal = λ k e. bad k (line_tells (state_of old records) (by x f) line k e);
+      unsigned = λ e. rose_of before.others.signer after_.others.signer x.signer meant.signer (line_signs before.others.screen (state_of old records) (by x f) line (signer_alone r.answer e));
+      unverified = λ e. let o = verifier_alone r.answer e in rose_by before.others.verifier.meaning before.others.verifier.faults after_.others.verifier.faults x.verifier o.number meant.verifier (line_verifies before.others.screen (state_of old records) (by x f) line o.number o.report o.is);
+      journal = λ k e. bad k (line_tells before.others.screen (state_of old records) (by x f) line k e);
     }
 
 leaves_from : (texts : List (List ℕ)) (now : Option (List (List ℕ))) (before after_ : ℕ) (old new : World) (number : ℕ) (text : List ℕ) (rs : List Record) (r : Step)
@@ -115,30 +175,30 @@ leaves_from : (texts : List (List ℕ)) (now : Option (List (List ℕ))) (before
 leaves_from texts now before after_ old new number text rs r h = record { told = h.told; sites = h.sites; sent = h.sent; kept = h.change.told }
 
 -- whichever records a step went by, it is one over those that are held
-over_held : (texts : List (List ℕ)) (before after_ : Told) (old new : World) (records : List Record) (x : Signing) (number : ℕ) (line text : List ℕ)
-    → IsMeant before.signer.algorithm before.signer.meaning before.signer.faults after_.signer.faults x → AreRecords texts records
-    → StepBy (λ s f. line_step s (by x f) line) (Some texts) old (Makes (TellsText before.keeper_faults after_.keeper_faults number text) (Some texts) after_.held old.wire new) → StepsOver before after_ old new texts records number line text
+over_held : (texts : List (List ℕ)) (before after_ : Told) (old new : World) (records : List Record) (x : Acting) (number : ℕ) (line text : List ℕ)
+    → IsActing before.others after_.others x → AreRecords texts records
+    → StepBy (line_steps before.others.screen x line) (Some texts) old (Makes (TellsText before.keeper_faults after_.keeper_faults number text) (Some texts) after_.held old.wire new) → StepsOver before after_ old new texts records number line text
 over_held texts before after_ old new records x number line text meant are h = by_reading h.choice.reading refl
   where
     unread : (h.choice.reading ≡ Read → ⊥) → StepsOver before after_ old new texts records number line text
     unread not_read =
-        let same = line_same (sites_view old.sites) old.wire h.records records (by x h.choice) not_read (line_event line) in
+        let same = line_same (sites_view old.sites) old.wire h.records records before.others.screen (by x h.choice) not_read (line_event line) in
         steps_from texts before after_ old new records x h.choice number line text meant are
-        (subst (λ (r : Step). Leaves texts after_.held before.keeper_faults after_.keeper_faults old new number text r) same.is (leaves_from texts after_.held before.keeper_faults after_.keeper_faults old new number text h.records (line_step (state_of old h.records) (by x h.choice) line) h.leaves))
+        (subst (λ (r : Step). Leaves texts after_.held before.keeper_faults after_.keeper_faults old new number text r) same.is (leaves_from texts after_.held before.keeper_faults after_.keeper_faults old new number text h.records (line_step before.others.screen (state_of old h.records) (by x h.choice) line) h.leaves))
         h.chosen.bad
 
     by_reading : (reading : Reading) → h.choice.reading ≡ reading → StepsOver before after_ old new texts records number line text
     by_reading Read e =
         let same : h.records ≡ records = are_one texts h.records records (h.chosen.read e) are in
         steps_from texts before after_ old new records x h.choice number line text meant are
-        (subst (λ (rs : List Record). Leaves texts after_.held before.keeper_faults after_.keeper_faults old new number text (line_step (state_of old rs) (by x h.choice) line)) same (leaves_from texts after_.held before.keeper_faults after_.keeper_faults old new number text h.records (line_step (state_of old h.records) (by x h.choice) line) h.leaves))
+        (subst (λ (rs : List Record). Leaves texts after_.held before.keeper_faults after_.keeper_faults old new number text (line_step before.others.screen (state_of old rs) (by x h.choice) line)) same (leaves_from texts after_.held before.keeper_faults after_.keeper_faults old new number text h.records (line_step before.others.screen (state_of old h.records) (by x h.choice) line) h.leaves))
         h.chosen.bad
     by_reading ReadFails e = unread (λ r. cc)
     by_reading (BadRecord n) e = unread (λ r. cc)
 
-steps_held : (held : Option (List (List ℕ))) (before after_ : Told) (old new : World) (x : Signing) (number : ℕ) (line : List ℕ) (result : Result (List ℕ) NoMemory)
-    → IsMeant before.signer.algorithm before.signer.meaning before.signer.faults after_.signer.faults x
-    → LineComes x held after_.held before.keeper_faults after_.keeper_faults old new number line result
+steps_held : (held : Option (List (List ℕ))) (before after_ : Told) (old new : World) (x : Acting) (number : ℕ) (line : List ℕ) (result : Result (List ℕ) NoMemory)
+    → IsActing before.others after_.others x
+    → LineComes before.others.screen x held after_.held before.keeper_faults after_.keeper_faults old new number line result
     → IfOk result (λ text. IfSome held (λ texts. (records : List Record) → AreRecords texts records → StepsOver before after_ old new texts records number line text))
 steps_held None before after_ old new x number line (Ok text) meant h = tt
 steps_held None before after_ old new x number line (Err e) meant h = tt
@@ -146,6 +206,6 @@ steps_held (Some texts) before after_ old new x number line (Ok text) meant h = 
 steps_held (Some texts) before after_ old new x number line (Err e) meant h = tt
 
 pub steps_told : (before after_ : Told) (old new : World) (number : ℕ) (line : List ℕ) (result : Result (List ℕ) NoMemory)
-    → Signed before.signer after_.signer (λ x. LineComes x before.held after_.held before.keeper_faults after_.keeper_faults old new number line result)
+    → Acted before.others after_.others (λ x. LineComes before.others.screen x before.held after_.held before.keeper_faults after_.keeper_faults old new number line result)
     → IfOk result (λ text. Steps before after_ old new number line text)
-steps_told before after_ old new number line result h = steps_held before.held before after_ old new h.signing number line result h.meant h.holds
+steps_told before after_ old new number line result h = steps_held before.held before after_ old new h.acting number line result h.meant h.holds

@@ -1,16 +1,20 @@
--- A record that is none is told only where the keeper's records are read, and a fault of the signer only where it is asked and fails.
+-- A record that is none is told only where the keeper's records are read, and a fault of signer or verifier only where it is asked and fails.
 use Rattle.std.proofs.Common.{◌≡◌, ℕ, List, [], ◌∷◌, Bool, true, false, cond, nat_le, Option, Some, None, Result, Ok, Err, refl, ap, subst}
 use Rattle.spec_documents.specs.Tree.{Tree}
 use Rattle.spec_messages.specs.Message.{Message, Member, Kind, of_request, of_response, kind_of, message_of, body_depth, wanted}
 use Rattle.spec_records.specs.Records.{KeySet, Context, Record}
 use Rattle.spec_exchange.specs.Chain.{◌>>=◌, unless, or_refused}
-use Rattle.spec_exchange.specs.ReceivingRefusals as receiving
+use Rattle.spec_exchange.specs.AcceptRefusals as receiving
+use Rattle.spec_exchange.specs.Accepting.{first_failed}
+use Rattle.spec_exchange.specs.EntryRefusals.{VerifierFailed}
+use Rattle.spec_exchange.proofs.EntryLemmas.{FailsAt, accepting_fails}
+use Rattle.spec_exchange.specs.Screens.{Passes}
 use Rattle.spec_exchange.specs.SendingRefusals as sending
 use Rattle.spec_exchange.specs.Outside.{Journal, Cause, Own, Outside, Reading, Read, ReadFails, BadRecord, Putting, Kept, Lost, KeptUntold, Outcome, behind_reading, or_refusal}
 use Rattle.spec_exchange.specs.Outside as outside
-use Rattle.spec_exchange.specs.FirstFailed.{Delivery, first_failed}
+use Rattle.spec_exchange.specs.FirstFailed.{Delivery}
 use Rattle.spec_exchange.specs.Calls.{Sealed, delivered_record, sent_record, protected}
-use Rattle.spec_script.specs.Refusals.{Refusal, DeepBody, OfOutside, SignerFailed}
+use Rattle.spec_script.specs.Refusals.{Refusal, DeepBody, OfReceiving, OfOutside, SignerFailed}
 use Rattle.spec_script.specs.Messages.{shallow_message}
 use Rattle.spec_script.specs.Choices.{Signing, Signs, SignerFails, Choices}
 use Rattle.spec_script.specs.Altering.{altered_by, altered}
@@ -37,26 +41,42 @@ call_told Read p (Err d) item k e = cc
 call_told ReadFails p r item k e = cc
 call_told (BadRecord n) p r item k e = cc
 
+-- a call's own refusal is that of its checks
+put_owns : {R T : Type 0} (p : Putting) (r : Record) (x : T) (e : R) → (outside.puts {R = R} p r x).result ≡ Err (Own e) → ⊥
+put_owns Kept r x e h = cc
+put_owns Lost r x e h = cc
+put_owns KeptUntold r x e h = cc
+
+call_owns : {R T : Type 0} (reading : Reading) (p : Putting) (r : Result T R) (item : T → Record) (e : R)
+    → (behind_reading reading (or_refusal r (λ x. outside.puts p (item x) x))).result ≡ Err (Own e) → r ≡ Err e
+call_owns Read p (Ok x) item e h = absurd (put_owns p (item x) x e h)
+call_owns Read p (Err d) item e h = cc
+call_owns ReadFails p r item e h = cc
+call_owns (BadRecord n) p r item e h = cc
+
 -- ---- steps
 
--- a record is told only where the keeper's records are read so, and a fault of the signer only where it fails
+-- a record is told only where the keeper's records are read so, and a fault of signer or verifier only where it fails
 record Tells (f : Choices) (r : Step) : Type 0 where
   pub of : (k : ℕ) → r.answer ≡ Refuses (OfOutside (Journal k)) → f.keeper.reading ≡ BadRecord k
   pub signer : r.answer ≡ Refuses SignerFailed → f.signer ≡ SignerFails
+  pub verifier : (number : ℕ) (report : Option Tree) → r.answer ≡ Refuses (OfReceiving (receiving.OfEntry number VerifierFailed) report) → FailsAt f.verifier number
 
 abbrev names_record : Refusal → Bool
 names_record (OfOutside (Journal number)) = true
 names_record SignerFailed = true
+names_record (OfReceiving (receiving.OfEntry number VerifierFailed) report) = true
 names_record _ = false
 
 refusal_tells : (s : State) (f : Choices) (d : Refusal) → names_record d ≡ false → Tells f (refuses s d)
 refusal_tells s f d other = record {
   of = λ k e. let same : d ≡ OfOutside (Journal k) = cc in let told : names_record d ≡ true = ap names_record same in cc;
   signer = λ e. let same : d ≡ SignerFailed = cc in let told : names_record d ≡ true = ap names_record same in cc;
+  verifier = λ n report e. let same : d ≡ OfReceiving (receiving.OfEntry n VerifierFailed) report = cc in let told : names_record d ≡ true = ap names_record same in cc;
 }
 
 done_tells : (f : Choices) (r : Step) → ((e : Refusal) → r.answer ≡ Refuses e → ⊥) → Tells f r
-done_tells f r other = record { of = λ k e. absurd (other _ e); signer = λ e. absurd (other _ e) }
+done_tells f r other = record { of = λ k e. absurd (other _ e); signer = λ e. absurd (other _ e); verifier = λ n report e. absurd (other _ e) }
 
 record Mute {A : Type 0} (r : Result A Refusal) : Type 0 where
   pub is : (e : Refusal) → r ≡ Err e → names_record e ≡ false
@@ -92,13 +112,13 @@ step_bind s f (Err d) k h g = refusal_tells s f d (h.is d refl)
 read_tells : (s : State) (f : Choices) (reading : Reading) (k : Unit {0} → Result Step Refusal) → f.keeper.reading ≡ reading → Tells f (or_refuses s (k tt)) → Tells f (or_refuses s (has_read reading >>= k))
 unfolding ◌>>=◌
 read_tells s f Read k is h = h
-read_tells s f ReadFails k is h = record { of = λ k e. cc; signer = λ e. cc }
-read_tells s f (BadRecord n) k is h = record { of = λ k e. cc; signer = λ e. cc }
+read_tells s f ReadFails k is h = record { of = λ k e. cc; signer = λ e. cc; verifier = λ n report e. cc }
+read_tells s f (BadRecord n) k is h = record { of = λ k e. cc; signer = λ e. cc; verifier = λ n report e. cc }
 
 puts_tells : (s : State) (f : Choices) (p : Putting) (name : List ℕ) (r : Record) → Tells f (puts s p name r)
-puts_tells s f Kept name r = record { of = λ k e. cc; signer = λ e. cc }
-puts_tells s f Lost name r = record { of = λ k e. cc; signer = λ e. cc }
-puts_tells s f KeptUntold name r = record { of = λ k e. cc; signer = λ e. cc }
+puts_tells s f Kept name r = record { of = λ k e. cc; signer = λ e. cc; verifier = λ n report e. cc }
+puts_tells s f Lost name r = record { of = λ k e. cc; signer = λ e. cc; verifier = λ n report e. cc }
+puts_tells s f KeptUntold name r = record { of = λ k e. cc; signer = λ e. cc; verifier = λ n report e. cc }
 
 sealed_is : (n k : ℕ) (r : Result Sealed (Cause sending.Refusal)) → sealed_answer n r ≡ Refuses (OfOutside (Journal k)) → r ≡ Err (Outside (Journal k))
 sealed_is n k (Ok x) e = cc
@@ -121,11 +141,25 @@ delivery_asks t (Ok x) e = cc
 delivery_asks t (Err (Own d)) e = cc
 delivery_asks t (Err (Outside fault)) e = cc
 
-sealed_tells : (s : State) (f : Choices) (r : Result Sealed sending.Refusal) → Tells f (sends_sealed s (behind_reading f.keeper.reading (or_refusal r (λ x. outside.puts f.keeper.putting (sent_record x) x))))
-sealed_tells s f r = record { of = λ k e. call_told f.keeper.reading f.keeper.putting r sent_record k (sealed_is _ k _ e); signer = λ e. absurd (sealed_asks _ _ e) }
+sealed_verifies : (n k : ℕ) (report : Option Tree) (r : Result Sealed (Cause sending.Refusal)) → sealed_answer n r ≡ Refuses (OfReceiving (receiving.OfEntry k VerifierFailed) report) → ⊥
+sealed_verifies n k report (Ok x) e = cc
+sealed_verifies n k report (Err (Own d)) e = cc
+sealed_verifies n k report (Err (Outside fault)) e = cc
 
-delivery_tells : (s : State) (f : Choices) (t : Tree) (r : Result Delivery receiving.Refusal) → Tells f (delivers s t (behind_reading f.keeper.reading (or_refusal r (λ x. outside.puts f.keeper.putting (delivered_record x) x))))
-delivery_tells s f t r = record { of = λ k e. call_told f.keeper.reading f.keeper.putting r delivered_record k (delivery_is t k _ e); signer = λ e. absurd (delivery_asks t _ e) }
+delivery_verifies : (t : Tree) (k : ℕ) (report : Option Tree) (r : Result Delivery (Cause receiving.Refusal)) → delivery_answer t r ≡ Refuses (OfReceiving (receiving.OfEntry k VerifierFailed) report) → r ≡ Err (Own (receiving.OfEntry k VerifierFailed))
+delivery_verifies t k report (Ok x) e = cc
+delivery_verifies t k report (Err (Own d)) e = cc
+delivery_verifies t k report (Err (Outside fault)) e = cc
+
+sealed_tells : (s : State) (f : Choices) (r : Result Sealed sending.Refusal) → Tells f (sends_sealed s (behind_reading f.keeper.reading (or_refusal r (λ x. outside.puts f.keeper.putting (sent_record x) x))))
+sealed_tells s f r = record { of = λ k e. call_told f.keeper.reading f.keeper.putting r sent_record k (sealed_is _ k _ e); signer = λ e. absurd (sealed_asks _ _ e); verifier = λ n report e. absurd (sealed_verifies _ n report _ e) }
+
+delivery_tells : (passes : Passes) (s : State) (f : Choices) (node : List ℕ) (t : Tree) → Tells f (delivers s t (behind_reading f.keeper.reading (or_refusal (first_failed passes f.verifier s.records node t) (λ x. outside.puts f.keeper.putting (delivered_record x) x))))
+delivery_tells passes s f node t = record {
+  of = λ k e. call_told f.keeper.reading f.keeper.putting (first_failed passes f.verifier s.records node t) delivered_record k (delivery_is t k _ e);
+  signer = λ e. absurd (delivery_asks t _ e);
+  verifier = λ n report e. accepting_fails passes f.verifier s.records node t n (call_owns f.keeper.reading f.keeper.putting (first_failed passes f.verifier s.records node t) delivered_record _ (delivery_verifies t n report _ e));
+}
 
 opens_tells : (s : State) (f : Choices) (x : Context) → Tells f (or_refuses s (opens s f.keeper x))
 opens_tells s f x =
@@ -172,19 +206,19 @@ altered_mute (op ∷ ops) t =
 
 passed_tells : (s : State) (f : Choices) (signing : Signing) → f.signer ≡ signing → (ipx : List ℕ) (operations t : Tree) → Tells f (or_refuses s (passes_on s signing ipx operations t))
 passed_tells s f (Signs g) is ipx operations t = step_bind s f _ _ (mute_or_refused _ _ λ member. refl) λ d. done_tells f _ λ e is. cc
-passed_tells s f SignerFails is ipx operations t = step_bind s f _ _ (mute_or_refused _ _ λ member. refl) λ parts. record { of = λ k e. cc; signer = λ e. is }
+passed_tells s f SignerFails is ipx operations t = step_bind s f _ _ (mute_or_refused _ _ λ member. refl) λ parts. record { of = λ k e. cc; signer = λ e. is; verifier = λ n report e. cc }
 
-event_tells : (s : State) (f : Choices) (e : Event) → Tells f (step s f e)
-event_tells s f (AddNode node plmn) = step_bind s f _ _ (mute_unless _ _ refl) λ a. done_tells f _ λ e is. cc
-event_tells s f (AddContext x) = step_bind s f _ _ (mute_wanted _ _ refl) λ plmn. step_bind s f _ _ (mute_or_refused _ _ λ k. refl) λ policy. opens_tells s f _
-event_tells s f (AddKeys node id set) = step_bind s f _ _ (mute_wanted _ _ refl) λ plmn. keys_tells s f node id set
-event_tells s f (Send node id t answers) = step_bind s f _ _ (mute_wanted _ _ refl) λ plmn. step_bind s f _ _ (mute_unless _ _ refl) λ room. step_bind s f _ _ (sent_mute t answers) λ m. sealed_tells s f (protected s.records node id m.0 m.1)
-event_tells s f (Pass ipx number operations) = step_bind s f _ _ (mute_wanted _ _ refl) λ t. step_bind s f _ _ (mute_unless _ _ refl) λ room. passed_tells s f f.signer refl ipx operations t
-event_tells s f (Inject t) = step_bind s f _ _ (mute_unless _ _ refl) λ room. done_tells f _ λ e is. cc
-event_tells s f (Alter number ops) = step_bind s f _ _ (mute_wanted _ _ refl) λ t. step_bind s f _ _ (mute_unless _ _ refl) λ room. step_bind s f _ _ (altered_mute ops t) λ u. done_tells f _ λ e is. cc
-event_tells s f (Deliver node number) = step_bind s f _ _ (mute_wanted _ _ refl) λ plmn. step_bind s f _ _ (mute_wanted _ _ refl) λ t. delivery_tells s f t (first_failed s.records node t)
-event_tells s f (Restart node) = step_bind s f _ _ (mute_wanted _ _ refl) λ plmn. done_tells f _ λ e is. cc
-event_tells s f (Reported node t) = step_bind s f _ _ (mute_wanted _ _ refl) λ plmn. step_bind s f _ _ (mute_or_refused _ _ λ none. refl) λ r. done_tells f _ λ e is. cc
+event_tells : (passes : Passes) (s : State) (f : Choices) (e : Event) → Tells f (step passes s f e)
+event_tells passes s f (AddNode node plmn) = step_bind s f _ _ (mute_unless _ _ refl) λ a. done_tells f _ λ e is. cc
+event_tells passes s f (AddContext x) = step_bind s f _ _ (mute_wanted _ _ refl) λ plmn. step_bind s f _ _ (mute_or_refused _ _ λ k. refl) λ policy. opens_tells s f _
+event_tells passes s f (AddKeys node id set) = step_bind s f _ _ (mute_wanted _ _ refl) λ plmn. keys_tells s f node id set
+event_tells passes s f (Send node id t answers) = step_bind s f _ _ (mute_wanted _ _ refl) λ plmn. step_bind s f _ _ (mute_unless _ _ refl) λ room. step_bind s f _ _ (sent_mute t answers) λ m. sealed_tells s f (protected s.records node id m.0 m.1)
+event_tells passes s f (Pass ipx number operations) = step_bind s f _ _ (mute_wanted _ _ refl) λ t. step_bind s f _ _ (mute_unless _ _ refl) λ room. passed_tells s f f.signer refl ipx operations t
+event_tells passes s f (Inject t) = step_bind s f _ _ (mute_unless _ _ refl) λ room. done_tells f _ λ e is. cc
+event_tells passes s f (Alter number ops) = step_bind s f _ _ (mute_wanted _ _ refl) λ t. step_bind s f _ _ (mute_unless _ _ refl) λ room. step_bind s f _ _ (altered_mute ops t) λ u. done_tells f _ λ e is. cc
+event_tells passes s f (Deliver node number) = step_bind s f _ _ (mute_wanted _ _ refl) λ plmn. step_bind s f _ _ (mute_wanted _ _ refl) λ t. delivery_tells passes s f node t
+event_tells passes s f (Restart node) = step_bind s f _ _ (mute_wanted _ _ refl) λ plmn. done_tells f _ λ e is. cc
+event_tells passes s f (Reported node t) = step_bind s f _ _ (mute_wanted _ _ refl) λ plmn. step_bind s f _ _ (mute_or_refused _ _ λ none. refl) λ r. done_tells f _ λ e is. cc
 
 -- ---- lines
 
@@ -200,14 +234,18 @@ value_mute : (o : Option Data) → Mute (place.◌>>=◌ (value_tree o) (λ t. o
 value_mute None = mute_err _ refl
 value_mute (Some v) = tree_mute (tree_from v)
 
-with_tells : (s : State) (f : Choices) (r : Result Event Refusal) → Mute r → Tells f (step_with s f r)
-with_tells s f (Ok e) mute = event_tells s f e
-with_tells s f (Err e) mute = refusal_tells s f e (mute.is e refl)
+with_tells : (passes : Passes) (s : State) (f : Choices) (r : Result Event Refusal) → Mute r → Tells f (step_with passes s f r)
+with_tells passes s f (Ok e) mute = event_tells passes s f e
+with_tells passes s f (Err e) mute = refusal_tells s f e (mute.is e refl)
 
 -- a line that is answered by a bad record: the keeper was read, and has it
-pub line_tells : (s : State) (f : Choices) (line : List ℕ) (k : ℕ) → (line_step s f line).answer ≡ Refuses (OfOutside (Journal k)) → f.keeper.reading ≡ BadRecord k
-line_tells s f line k e = (with_tells s f (line_event line) (value_mute (text_value line))).of k e
+pub line_tells : (passes : Passes) (s : State) (f : Choices) (line : List ℕ) (k : ℕ) → (line_step passes s f line).answer ≡ Refuses (OfOutside (Journal k)) → f.keeper.reading ≡ BadRecord k
+line_tells passes s f line k e = (with_tells passes s f (line_event line) (value_mute (text_value line))).of k e
 
 -- one that is answered by a fault of the signer: it failed
-pub line_signs : (s : State) (f : Choices) (line : List ℕ) → (line_step s f line).answer ≡ Refuses SignerFailed → f.signer ≡ SignerFails
-line_signs s f line e = (with_tells s f (line_event line) (value_mute (text_value line))).signer e
+pub line_signs : (passes : Passes) (s : State) (f : Choices) (line : List ℕ) → (line_step passes s f line).answer ≡ Refuses SignerFailed → f.signer ≡ SignerFails
+line_signs passes s f line e = (with_tells passes s f (line_event line) (value_mute (text_value line))).signer e
+
+-- one that is answered by a fault of the verifier: it failed
+pub line_verifies : (passes : Passes) (s : State) (f : Choices) (line : List ℕ) (number : ℕ) (report : Option Tree) → (line_step passes s f line).answer ≡ Refuses (OfReceiving (receiving.OfEntry number VerifierFailed) report) → FailsAt f.verifier number
+line_verifies passes s f line number report e = (with_tells passes s f (line_event line) (value_mute (text_value line))).verifier number report e

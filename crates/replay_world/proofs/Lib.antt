@@ -12,6 +12,7 @@ pub mod Printed
 pub mod Wires
 pub mod Handling
 pub mod Signing
+pub mod Verified
 pub mod ReportNumbers
 pub mod Deliveries
 pub mod Altering

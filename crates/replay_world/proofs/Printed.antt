@@ -10,8 +10,9 @@ use Rattle.spec_script.specs.Output.{has_refusal, is_keeper_refusal}
 use Rattle.script_lines.specs.View.{refusal_view}
 use Rattle.script_lines.specs.declared.refusal.Refusal.{Refusal}
 use Rattle.script_lines.specs.declared.refusal.Refusal.TheVariants as refusals
-use Rattle.spec_script.specs.Choices.{Signing, Choices}
-use Rattle.replay_world.specs.Outsiders.{by}
+use Rattle.spec_exchange.specs.Screens.{Passes}
+use Rattle.spec_script.specs.Choices.{Choices}
+use Rattle.replay_world.specs.Outsiders.{Acting, by, line_steps}
 use Rattle.replay_world.specs.Worlds.{state_of}
 use Rattle.replay_world.specs.Stepping.{StepBy, Makes, GivesUp, Tells, Comes, TellsText, LineComes, is_refusal}
 use Rattle.replay_world.specs.declared.world.World.{World}
@@ -60,31 +61,31 @@ told_so steps held now old new P Q f h = record {
   leaves = record { told = f (steps (state_of old h.records) h.choice).answer h.leaves.told; sites = h.leaves.sites; sent = h.leaves.sent; change = h.leaves.change };
 }
 
-pub printed_ok : (x : Signing) (held now : Option (List (List ℕ))) (before after_ : ℕ) (old new : World) (number : ℕ) (line text : List ℕ)
-    → Comes (λ s f. line_step s (by x f) line) held now old new number (Ok text) → LineComes x held now before after_ old new number line (Ok text)
-printed_ok x held now before after_ old new number line text h =
-    told_so (λ s f. line_step s (by x f) line) held now old new (Tells number (Ok text)) (TellsText before after_ number text) (λ a p. record { text_is = p.0; failed = λ e. let other = no_refusal a p.1 in cc }) h
+pub printed_ok : (passes : Passes) (x : Acting) (held now : Option (List (List ℕ))) (before after_ : ℕ) (old new : World) (number : ℕ) (line text : List ℕ)
+    → Comes (line_steps passes x line) held now old new number (Ok text) → LineComes passes x held now before after_ old new number line (Ok text)
+printed_ok passes x held now before after_ old new number line text h =
+    told_so (line_steps passes x line) held now old new (Tells number (Ok text)) (TellsText before after_ number text) (λ a p. record { text_is = p.0; failed = λ e. let other = no_refusal a p.1 in cc }) h
 
 refusal_told : (before after_ : ℕ) (number : ℕ) (text : List ℕ) (refusal : Refusal) (a : Answer) → text ≡ answer_text number (Refuses (refusal_view refusal)) → (refusal ≡ refusals.Keeper → Rose before after_) → a ≡ Refuses (refusal_view refusal) → TellsText before after_ number text a
 refusal_told before after_ number text refusal a is failed same =
     subst (λ (z : Answer). TellsText before after_ number text z) (sym same) (record { text_is = is; failed = λ e. failed (keeper_alone refusal e) })
 
 -- a refusal leaves the nodes and the wire
-pub record KeepsState (line : List ℕ) : Type 0 where
-  pub sites : (s : State) (f : Choices) (e : script.Refusal) → (line_step s f line).answer ≡ Refuses e → (after s (line_step s f line)).sites ≡ s.sites
-  pub wire : (s : State) (f : Choices) (e : script.Refusal) → (line_step s f line).answer ≡ Refuses e → (after s (line_step s f line)).wire ≡ s.wire
+pub record KeepsState (passes : Passes) (line : List ℕ) : Type 0 where
+  pub sites : (s : State) (f : Choices) (e : script.Refusal) → (line_step passes s f line).answer ≡ Refuses e → (after s (line_step passes s f line)).sites ≡ s.sites
+  pub wire : (s : State) (f : Choices) (e : script.Refusal) → (line_step passes s f line).answer ≡ Refuses e → (after s (line_step passes s f line)).wire ≡ s.wire
 
-unprinted : (x : Signing) (held now : Option (List (List ℕ))) (old new : World) (number : ℕ) (line : List ℕ) (refusal : Refusal) → KeepsState line
-    → StepBy (λ s f. line_step s (by x f) line) held old (Makes (Tells number (Err (unanswered.Refused refusal))) held now old.wire new) → GivesUp (λ s f. line_step s (by x f) line) held now old new
-unprinted x held now old new number line refusal keeps h = record {
+unprinted : (passes : Passes) (x : Acting) (held now : Option (List (List ℕ))) (old new : World) (number : ℕ) (line : List ℕ) (refusal : Refusal) → KeepsState passes line
+    → StepBy (line_steps passes x line) held old (Makes (Tells number (Err (unanswered.Refused refusal))) held now old.wire new) → GivesUp (line_steps passes x line) held now old new
+unprinted passes x held now old new number line refusal keeps h = record {
   sites = h.leaves.sites ∙ keeps.sites (state_of old h.records) (by x h.choice) (refusal_view refusal) h.leaves.told;
   wire = h.leaves.sent ∙ keeps.wire (state_of old h.records) (by x h.choice) (refusal_view refusal) h.leaves.told;
   kept = inr (record { choice = h.choice; records = h.records; chosen = h.chosen; leaves = h.leaves.change.told });
 }
 
-pub printed_refusal : (x : Signing) (held now : Option (List (List ℕ))) (before after_ : ℕ) (old new : World) (number : ℕ) (line : List ℕ) (refusal : Refusal) (result : Result (List ℕ) NoMemory) → KeepsState line
+pub printed_refusal : (passes : Passes) (x : Acting) (held now : Option (List (List ℕ))) (before after_ : ℕ) (old new : World) (number : ℕ) (line : List ℕ) (refusal : Refusal) (result : Result (List ℕ) NoMemory) → KeepsState passes line
     → IfOk result (λ text. text ≡ answer_text number (Refuses (refusal_view refusal))) → (refusal ≡ refusals.Keeper → Rose before after_)
-    → Comes (λ s f. line_step s (by x f) line) held now old new number (Err (unanswered.Refused refusal)) → LineComes x held now before after_ old new number line result
-printed_refusal x held now before after_ old new number line refusal (Ok text) keeps is failed h =
-    told_so (λ s f. line_step s (by x f) line) held now old new (Tells number (Err (unanswered.Refused refusal))) (TellsText before after_ number text) (λ a p. refusal_told before after_ number text refusal a is failed p) h
-printed_refusal x held now before after_ old new number line refusal (Err e) keeps is failed h = unprinted x held now old new number line refusal keeps h
+    → Comes (line_steps passes x line) held now old new number (Err (unanswered.Refused refusal)) → LineComes passes x held now before after_ old new number line result
+printed_refusal passes x held now before after_ old new number line refusal (Ok text) keeps is failed h =
+    told_so (line_steps passes x line) held now old new (Tells number (Err (unanswered.Refused refusal))) (TellsText before after_ number text) (λ a p. refusal_told before after_ number text refusal a is failed p) h
+printed_refusal passes x held now before after_ old new number line refusal (Err e) keeps is failed h = unprinted passes x held now old new number line refusal keeps h

@@ -16,13 +16,13 @@ use Rattle.spec_sealing.specs.Received.{Received}
 use Rattle.spec_sealing.specs.Passing.{with_room, passed}
 use Rattle.spec_script.specs.Choices.{Signer, Signing, Signs, SignerFails}
 use Rattle.spec_script.specs.Events.{Pass}
-use Rattle.spec_script.specs.Steps.{wire_at, is_full, step}
+use Rattle.spec_script.specs.Steps.{wire_at, is_full}
 use Rattle.script_lines.specs.AnswerTexts as texts
 use Rattle.script_lines.specs.declared.refusal.Refusal.TheVariants as refusals
 use Rattle.script_lines.specs.declared.unanswered.Unanswered.{Unanswered}
 use Rattle.script_lines.specs.declared.unanswered.Unanswered.TheVariants as unanswered
 use Rattle.std.proofs.Common.{◌+◌, ◌≤◌, max, arith, ℤ, length, false}
-use Rattle.replay_world.specs.Outsiders.{OfSigner, IsMeant, Signed, by}
+use Rattle.replay_world.specs.Outsiders.{OfSigner, IsMeant, Signed, all_pass, by, event_steps, idle, only_signs}
 use Rattle.replay_world.specs.Worlds.{IsShallow, IsSound, state_of}
 use Rattle.replay_world.specs.Wires.{HasMore}
 use Rattle.replay_world.specs.Handling.{HandlesAlone}
@@ -34,7 +34,7 @@ use Rattle.replay_world.proofs.Wires.{sound_more}
 
 -- ---- signings that are meant
 
-some_signing : (alg : JwsAlg) (told : Option (JwsAlg → List ℕ → List ℕ → List ℕ)) (before after_ : ℕ) → (x : Signing) × IsMeant alg told before after_ x
+pub some_signing : (alg : JwsAlg) (told : Option (JwsAlg → List ℕ → List ℕ → List ℕ)) (before after_ : ℕ) → (x : Signing) × IsMeant alg told before after_ x
 some_signing alg None before after_ = (Signs (record { algorithm = alg_view alg; sign = λ identity input. [] }), refl)
 some_signing alg (Some f) before after_ = (Signs (record { algorithm = alg_view alg; sign = f alg }), refl)
 
@@ -61,7 +61,7 @@ meant_by alg (Some f) before after_ identity sign as_told = record { signer = re
 -- ---- passing on
 
 abbrev pub PassesSo : (before after_ : OfSigner) (old new : World) → ℕ → (ipx : List ℕ) → ℤ → Tree → Result (List ℕ) Unanswered → Type 0
-PassesSo before after_ old new number ipx wire operations result = Signed before after_ (λ x. HandlesAlone (λ s f. step s (by x f) (Pass ipx wire operations)) old new number result)
+PassesSo before after_ old new number ipx wire operations result = Signed before after_ (λ x. HandlesAlone (event_steps all_pass (only_signs x) (Pass ipx wire operations)) old new number result)
 
 pub passed_done : (before after_ : OfSigner) (old new : World) (number : ℕ) (text ipx : List ℕ) (wire : ℤ) (operations t d : Tree) → wire_at old.wire wire ≡ Some t → is_full old.wire ≡ false
     → Passes before.meaning before.algorithm ipx operations t (Ok d) → text ≡ texts.document_answer number d (length old.wire + 1) → HasMore old new d → IsShallow d → IsSound old
@@ -73,7 +73,7 @@ passed_done before after_ old new number text ipx wire operations t d found room
       signing = Signs m.signer;
       meant = m.is;
       holds = alone_done _ old new number text
-          (idles_made _ old new number text d (λ records f. passed_goes_on all_pass (state_of old records) (by (Signs m.signer) f) ipx wire operations t d m.signer refl found room good) is more)
+          (idles_made _ old new number text d (λ records f. passed_goes_on all_pass (state_of old records) (by (only_signs (Signs m.signer)) f) ipx wire operations t d m.signer refl found room good) is more)
           (sound_more old new d more low sound);
     }
 
@@ -87,7 +87,7 @@ passed_formless before after_ old number ipx wire operations t part found room p
       signing = Signs m.signer;
       meant = m.is;
       holds = alone_refused _ old number (refusals.Form part) (λ e. cc) sound
-          (λ records f. passed_refused all_pass (state_of old records) (by (Signs m.signer) f) ipx wire operations t (part_name part) m.signer refl found room bad);
+          (λ records f. passed_refused all_pass (state_of old records) (by (only_signs (Signs m.signer)) f) ipx wire operations t (part_name part) m.signer refl found room bad);
     }
 
 -- a document that is passed on is as shallow as those on the wire
@@ -107,7 +107,7 @@ passed_unasked before after_ old number ipx wire operations t found room asked r
       signing = SignerFails;
       meant = rose;
       holds = alone_refused _ old number refusals.Signer (λ e. cc) sound
-          (λ records f. passed_unsigned all_pass (state_of old records) (by SignerFails f) ipx wire operations t parts.0 refl found room parts.1);
+          (λ records f. passed_unsigned all_pass (state_of old records) (by idle f) ipx wire operations t parts.0 refl found room parts.1);
     }
 
 pub passed_not : (before after_ : OfSigner) (old : World) (number : ℕ) (ipx : List ℕ) (wire : ℤ) (operations t : Tree) (e : PassFault) → wire_at old.wire wire ≡ Some t → is_full old.wire ≡ false

@@ -3,7 +3,8 @@ use Rattle.std.proofs.Common.{◌≡◌, ℕ, List, None, Result, Ok, Err, refl}
 use Rattle.spec_documents.specs.Tree.{Tree}
 use Rattle.spec_records.specs.Records.{Record}
 use Rattle.spec_exchange.specs.Chain.{◌>>=◌}
-use Rattle.spec_exchange.specs.ReceivingRefusals as receiving
+use Rattle.spec_exchange.specs.AcceptRefusals as receiving
+use Rattle.spec_exchange.specs.Screens.{Passes}
 use Rattle.spec_exchange.specs.SendingRefusals as sending
 use Rattle.spec_exchange.specs.Outside.{Reading, Read, ReadFails, BadRecord, Outcome, behind_reading}
 use Rattle.spec_exchange.specs.FirstFailed.{Delivery}
@@ -54,19 +55,19 @@ passed_same : (sites : List Site) (wire : List Tree) (rs qs : List Record) (sign
 passed_same sites wire rs qs (Signs g) ipx operations t = bind_same sites wire rs qs _ _ _ λ d. record { is = refl; none = refl }
 passed_same sites wire rs qs SignerFails ipx operations t = bind_same sites wire rs qs _ _ _ λ parts. refused_same sites wire rs qs SignerFailed
 
-event_same : (sites : List Site) (wire : List Tree) (rs qs : List Record) (f : Choices) → (f.keeper.reading ≡ Read → ⊥) → (e : Event) → Same (step (over sites wire rs) f e) (step (over sites wire qs) f e)
-event_same sites wire rs qs f not_read (AddNode node plmn) = bind_same sites wire rs qs _ _ _ λ new. record { is = refl; none = refl }
-event_same sites wire rs qs f not_read (AddContext x) = bind_same sites wire rs qs _ _ _ λ plmn. bind_same sites wire rs qs _ _ _ λ policy. unread_same sites wire rs qs f.keeper.reading _ _ not_read
-event_same sites wire rs qs f not_read (AddKeys node id set) = bind_same sites wire rs qs _ _ _ λ plmn. unread_same sites wire rs qs f.keeper.reading _ _ not_read
-event_same sites wire rs qs f not_read (Send node id t answers) = bind_same sites wire rs qs _ _ _ λ plmn. bind_same sites wire rs qs _ _ _ λ room. bind_same sites wire rs qs _ _ _ λ m. sealed_same sites wire rs qs f.keeper.reading _ _ not_read
-event_same sites wire rs qs f not_read (Pass ipx number operations) = bind_same sites wire rs qs _ _ _ λ t. bind_same sites wire rs qs _ _ _ λ room. passed_same sites wire rs qs f.signer ipx operations t
-event_same sites wire rs qs f not_read (Inject t) = bind_same sites wire rs qs _ _ _ λ room. record { is = refl; none = refl }
-event_same sites wire rs qs f not_read (Alter number ops) = bind_same sites wire rs qs _ _ _ λ t. bind_same sites wire rs qs _ _ _ λ room. bind_same sites wire rs qs _ _ _ λ u. record { is = refl; none = refl }
-event_same sites wire rs qs f not_read (Deliver node number) = bind_same sites wire rs qs _ _ _ λ plmn. bind_same sites wire rs qs _ _ _ λ t. delivery_same sites wire rs qs t f.keeper.reading _ _ not_read
-event_same sites wire rs qs f not_read (Restart node) = bind_same sites wire rs qs _ _ _ λ plmn. record { is = refl; none = refl }
-event_same sites wire rs qs f not_read (Reported node t) = bind_same sites wire rs qs _ _ _ λ plmn. bind_same sites wire rs qs _ _ _ λ r. record { is = refl; none = refl }
+event_same : (sites : List Site) (wire : List Tree) (rs qs : List Record) (passes : Passes) (f : Choices) → (f.keeper.reading ≡ Read → ⊥) → (e : Event) → Same (step passes (over sites wire rs) f e) (step passes (over sites wire qs) f e)
+event_same sites wire rs qs passes f not_read (AddNode node plmn) = bind_same sites wire rs qs _ _ _ λ new. record { is = refl; none = refl }
+event_same sites wire rs qs passes f not_read (AddContext x) = bind_same sites wire rs qs _ _ _ λ plmn. bind_same sites wire rs qs _ _ _ λ policy. unread_same sites wire rs qs f.keeper.reading _ _ not_read
+event_same sites wire rs qs passes f not_read (AddKeys node id set) = bind_same sites wire rs qs _ _ _ λ plmn. unread_same sites wire rs qs f.keeper.reading _ _ not_read
+event_same sites wire rs qs passes f not_read (Send node id t answers) = bind_same sites wire rs qs _ _ _ λ plmn. bind_same sites wire rs qs _ _ _ λ room. bind_same sites wire rs qs _ _ _ λ m. sealed_same sites wire rs qs f.keeper.reading _ _ not_read
+event_same sites wire rs qs passes f not_read (Pass ipx number operations) = bind_same sites wire rs qs _ _ _ λ t. bind_same sites wire rs qs _ _ _ λ room. passed_same sites wire rs qs f.signer ipx operations t
+event_same sites wire rs qs passes f not_read (Inject t) = bind_same sites wire rs qs _ _ _ λ room. record { is = refl; none = refl }
+event_same sites wire rs qs passes f not_read (Alter number ops) = bind_same sites wire rs qs _ _ _ λ t. bind_same sites wire rs qs _ _ _ λ room. bind_same sites wire rs qs _ _ _ λ u. record { is = refl; none = refl }
+event_same sites wire rs qs passes f not_read (Deliver node number) = bind_same sites wire rs qs _ _ _ λ plmn. bind_same sites wire rs qs _ _ _ λ t. delivery_same sites wire rs qs t f.keeper.reading _ _ not_read
+event_same sites wire rs qs passes f not_read (Restart node) = bind_same sites wire rs qs _ _ _ λ plmn. record { is = refl; none = refl }
+event_same sites wire rs qs passes f not_read (Reported node t) = bind_same sites wire rs qs _ _ _ λ plmn. bind_same sites wire rs qs _ _ _ λ r. record { is = refl; none = refl }
 
-pub line_same : (sites : List Site) (wire : List Tree) (rs qs : List Record) (f : Choices) → (f.keeper.reading ≡ Read → ⊥) → (r : Result Event Refusal)
-    → Same (step_with (record { sites = sites; wire = wire; records = rs }) f r) (step_with (record { sites = sites; wire = wire; records = qs }) f r)
-line_same sites wire rs qs f not_read (Ok e) = event_same sites wire rs qs f not_read e
-line_same sites wire rs qs f not_read (Err e) = refused_same sites wire rs qs e
+pub line_same : (sites : List Site) (wire : List Tree) (rs qs : List Record) (passes : Passes) (f : Choices) → (f.keeper.reading ≡ Read → ⊥) → (r : Result Event Refusal)
+    → Same (step_with passes (record { sites = sites; wire = wire; records = rs }) f r) (step_with passes (record { sites = sites; wire = wire; records = qs }) f r)
+line_same sites wire rs qs passes f not_read (Ok e) = event_same sites wire rs qs passes f not_read e
+line_same sites wire rs qs passes f not_read (Err e) = refused_same sites wire rs qs e

@@ -121,14 +121,14 @@ abbrev pub line_steps : Passes → Acting → (line : List ℕ) → State → Ch
 line_steps passes x line s f = line_step passes s (by x f) line
 
 -- one that asks no verifier, and one that asks no signer
-abbrev pub signs : Signing → Acting
-signs x = record { signer = x; verifier = λ number claim. Fails }
+abbrev pub only_signs : Signing → Acting
+only_signs x = record { signer = x; verifier = λ number claim. Fails }
 
-abbrev pub verifies : Verifying → Acting
-verifies v = record { signer = SignerFails; verifier = v }
+abbrev pub only_verifies : Verifying → Acting
+only_verifies v = record { signer = SignerFails; verifier = v }
 
 abbrev pub idle : Acting
-idle = signs SignerFails
+idle = only_signs SignerFails
 
 abbrev pub all_pass : Passes
 all_pass m plmn = true

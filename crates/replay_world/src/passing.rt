@@ -7,7 +7,7 @@ ghost use Rattle.spec_script.specs.Events.{Alter, Pass};
 ghost use Rattle.spec_documents.specs.Gives.{Gives};
 ghost use Rattle.spec_documents.specs.Tree.{depth as nesting};
 ghost use Rattle.script_lines.specs.Unanswered.{SparesKeeper, told_refusal};
-ghost use Rattle.replay_world.specs.Outsiders.{Signed, SignerStays, all_pass, event_steps, of_signer, signs, unasked};
+ghost use Rattle.replay_world.specs.Outsiders.{Signed, SignerStays, all_pass, event_steps, of_signer, only_signs, unasked};
 ghost use Rattle.replay_world.specs.Worlds.{IsShallow, IsSound};
 ghost use Rattle.replay_world.specs.Handling.{HandlesAlone};
 
@@ -39,7 +39,7 @@ pub(crate) fn pass<G: Signer>(
     requires sound { IsSound world.old }
     requires shallow { IsShallow (tree_of operations) }
     ensures handles { Signed (of_signer (G.algorithm signer.old) (G.meaning signer.old) (G.faults signer.old)) (of_signer (G.algorithm signer.new) (G.meaning signer.new) (G.faults signer.new))
-        (λ x. HandlesAlone (event_steps all_pass (signs x) (Pass ipx wire.now (tree_of operations))) world.old world.new number result) }
+        (λ x. HandlesAlone (event_steps all_pass (only_signs x) (Pass ipx wire.now (tree_of operations))) world.old world.new number result) }
     ensures signer { SignerStays (of_signer (G.algorithm signer.old) (G.meaning signer.old) (G.faults signer.old)) (of_signer (G.algorithm signer.new) (G.meaning signer.new) (G.faults signer.new)) }
 {
     let document = match document_at(&world.wire, wire) {

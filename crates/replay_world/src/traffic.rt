@@ -13,7 +13,7 @@ ghost use Rattle.spec_documents.specs.Gives.{Gives};
 ghost use Rattle.script_lines.specs.Unanswered.{SparesKeeper, told_refusal};
 ghost use Rattle.entry_checks.specs.Verifiers.{UnderVerifier};
 ghost use Rattle.message_screens.specs.Screening.{IsScreen, rule_of};
-ghost use Rattle.replay_world.specs.Outsiders.{VerifierStays, event_steps, of_verifier, unasked, verifies};
+ghost use Rattle.replay_world.specs.Outsiders.{VerifierStays, event_steps, of_verifier, only_verifies, unasked};
 ghost use Rattle.replay_world.specs.Worlds.{IsReady, IsShallow, IsSound};
 ghost use Rattle.replay_world.specs.Handling.{Handles, HandlesAlone};
 ghost use Rattle.replay_world.specs.Sending.{outgoing_view};
@@ -196,7 +196,7 @@ pub(crate) fn deliver<
     requires ready { IsReady (K.held keeper.old) world.old }
     requires follows { IsScreen F.Fn R.passes screen.now }
     ensures handles { UnderVerifier (V.meaning verifier.old) (V.faults verifier.old) (V.faults verifier.new)
-        (λ v. Handles (event_steps (R.passes (rule_of screen.now)) (verifies v) (Deliver node.now wire.now))
+        (λ v. Handles (event_steps (R.passes (rule_of screen.now)) (only_verifies v) (Deliver node.now wire.now))
         (K.held keeper.old) (K.held keeper.new) (K.faults keeper.old) (K.faults keeper.new) world.old world.new number result) }
     ensures verifier { VerifierStays (of_verifier (V.meaning verifier.old) (V.faults verifier.old)) (of_verifier (V.meaning verifier.new) (V.faults verifier.new)) }
 {

@@ -3,15 +3,18 @@ use Rattle.std.proofs.Common.{◌≡◌, ℕ, suc, ◌+◌, true, false, List, [
 use Rattle.std.specs.Prelude.{slice_get}
 use Rattle.spec_documents.specs.Tree.{Tree}
 use Rattle.spec_records.specs.Records.{Record}
-use Rattle.spec_exchange.specs.ReceivingRefusals as receiving
+use Rattle.spec_exchange.specs.AcceptRefusals as accepting
 use Rattle.spec_exchange.specs.SendingRefusals as sending
 use Rattle.spec_exchange.specs.Outside.{Cause, Own, Outside, Journal, Keeper, Reading, Read, ReadFails, BadRecord, Putting, Kept, Lost, KeptUntold, Outcome, behind_reading, or_refusal}
 use Rattle.spec_exchange.specs.Outside as outside
-use Rattle.spec_exchange.specs.FirstFailed.{Delivery, first_failed}
-use Rattle.spec_exchange.specs.Calls.{Sealed, delivered_record, sent_record, accepted, sends, protected}
+use Rattle.spec_exchange.specs.FirstFailed.{Delivery}
+use Rattle.spec_exchange.specs.Calls.{Sealed, delivered_record, sent_record, sends, protected}
+use Rattle.spec_exchange.specs.Screens.{Passes}
+use Rattle.spec_exchange.specs.Accepting.{first_failed}
+use Rattle.spec_exchange.specs.AcceptCalls.{accepted}
 use Rattle.spec_script.specs.Refusals.{Refusal, OfOutside}
 use Rattle.spec_script.specs.Events.{line_event}
-use Rattle.spec_script.specs.Choices.{Choices}
+use Rattle.spec_script.specs.Choices.{Choices, of_accepting}
 use Rattle.spec_script.specs.Steps.{State, OnWire, Sends, Forwards, Refuses, Step, after, refuses, puts, sends_sealed, delivers, next_number, wire_at, line_step}
 use Rattle.spec_script.specs.Output.{is_keeper_refusal}
 use Rattle.spec_script.proofs.StepLemmas.{line_covered}
@@ -45,14 +48,14 @@ sealed_keeps s (Err (Own d)) p c = record { sites = λ e h. refl; sent = λ e h.
 sealed_keeps s (Err (Outside (Journal n))) p c = record { sites = λ e h. refl; sent = λ e h. refl; put = λ e h k. c (Outside (Journal n)) refl refl }
 sealed_keeps s (Err (Outside Keeper)) p c = record { sites = λ e h. refl; sent = λ e h. refl; put = λ e h k. let same : OfOutside Keeper ≡ e = cc in other_than_keeper e same k }
 
-delivery_keeps : (s : State) (t : Tree) (r : Result Delivery (Cause receiving.Refusal)) (p : Option Record) → PutsNone r p → Keeps s (delivers s t (record { result = r; put = p }))
+delivery_keeps : (s : State) (t : Tree) (r : Result Delivery (Cause accepting.Refusal)) (p : Option Record) → PutsNone r p → Keeps s (delivers s t (record { result = r; put = p }))
 delivery_keeps s t (Ok x) p c = record { sites = λ e h. refl; sent = λ e h. refl; put = λ e h k. cc }
 delivery_keeps s t (Err (Own d)) p c = record { sites = λ e h. refl; sent = λ e h. refl; put = λ e h k. c (Own d) refl refl }
 delivery_keeps s t (Err (Outside (Journal n))) p c = record { sites = λ e h. refl; sent = λ e h. refl; put = λ e h k. c (Outside (Journal n)) refl refl }
 delivery_keeps s t (Err (Outside Keeper)) p c = record { sites = λ e h. refl; sent = λ e h. refl; put = λ e h k. let same : OfOutside Keeper ≡ e = cc in other_than_keeper e same k }
 
-pub line_keeps : (s : State) (f : Choices) (line : List ℕ) → Keeps s (line_step s f line)
-line_keeps s f line = line_covered (λ r. Keeps s r) s f (record {
+pub line_keeps : (passes : Passes) (s : State) (f : Choices) (line : List ℕ) → Keeps s (line_step passes s f line)
+line_keeps passes s f line = line_covered (λ r. Keeps s r) passes s f (record {
   refused = refusal_keeps s;
   restarted = λ node. record { sites = λ e h. refl; sent = λ e h. refl; put = λ e h k. refl };
   node = λ n plmn. record { sites = λ e h. cc; sent = λ e h. refl; put = λ e h k. refl };
@@ -61,7 +64,7 @@ line_keeps s f line = line_covered (λ r. Keeps s r) s f (record {
   forwarded = λ t. record { sites = λ e h. refl; sent = λ e h. cc; put = λ e h k. refl };
   reported = λ r. record { sites = λ e h. refl; sent = λ e h. refl; put = λ e h k. refl };
   sealed = λ n i o m. sealed_keeps s (sends f.keeper s.records n i o m).result (sends f.keeper s.records n i o m).put (clean_read f.keeper.reading _ (clean_chain (protected s.records n i o m) _ λ y. clean_puts f.keeper.putting (sent_record y) y)).is;
-  came = λ n t. delivery_keeps s t (accepted f.keeper s.records n t).result (accepted f.keeper s.records n t).put (clean_read f.keeper.reading _ (clean_chain (first_failed s.records n t) _ λ y. clean_puts f.keeper.putting (delivered_record y) y)).is;
+  came = λ n t. delivery_keeps s t (accepted passes (of_accepting f) s.records n t).result (accepted passes (of_accepting f) s.records n t).put (clean_read f.keeper.reading _ (clean_chain (first_failed passes f.verifier s.records n t) _ λ y. clean_puts f.keeper.putting (delivered_record y) y)).is;
 }) (line_event line)
 
 pub unchanged : (s : State) (r : Step) → r.sites ≡ s.sites → r.sent ≡ None → r.put ≡ None → after s r ≡ s
@@ -93,12 +96,12 @@ sealed_wires : (s : State) (r : Result Sealed (Cause sending.Refusal)) (p : Opti
 sealed_wires s (Ok y) p = record { sealed = λ x k e. (cc, cc); injected = λ k e. cc; forwarded = λ t k e. cc }
 sealed_wires s (Err d) p = record { sealed = λ x k e. cc; injected = λ k e. cc; forwarded = λ t k e. cc }
 
-delivery_wires : (s : State) (t : Tree) (r : Result Delivery (Cause receiving.Refusal)) (p : Option Record) → Wires s (delivers s t (record { result = r; put = p }))
+delivery_wires : (s : State) (t : Tree) (r : Result Delivery (Cause accepting.Refusal)) (p : Option Record) → Wires s (delivers s t (record { result = r; put = p }))
 delivery_wires s t (Ok y) p = record { sealed = λ x k e. cc; injected = λ k e. cc; forwarded = λ t k e. cc }
 delivery_wires s t (Err d) p = record { sealed = λ x k e. cc; injected = λ k e. cc; forwarded = λ t k e. cc }
 
-pub line_wires : (s : State) (f : Choices) (line : List ℕ) → Wires s (line_step s f line)
-line_wires s f line = line_covered (λ r. Wires s r) s f (record {
+pub line_wires : (passes : Passes) (s : State) (f : Choices) (line : List ℕ) → Wires s (line_step passes s f line)
+line_wires passes s f line = line_covered (λ r. Wires s r) passes s f (record {
   refused = λ d. record { sealed = λ x k e. cc; injected = λ k e. cc; forwarded = λ t k e. cc };
   restarted = λ node. record { sealed = λ x k e. cc; injected = λ k e. cc; forwarded = λ t k e. cc };
   node = λ n plmn. record { sealed = λ x k e. cc; injected = λ k e. cc; forwarded = λ t k e. cc };
@@ -107,7 +110,7 @@ line_wires s f line = line_covered (λ r. Wires s r) s f (record {
   forwarded = λ t. record { sealed = λ x k e. cc; injected = λ k e. cc; forwarded = λ u k e. (cc, cc) };
   reported = λ r. record { sealed = λ x k e. cc; injected = λ k e. cc; forwarded = λ t k e. cc };
   sealed = λ n i o m. sealed_wires s (sends f.keeper s.records n i o m).result (sends f.keeper s.records n i o m).put;
-  came = λ n t. delivery_wires s t (accepted f.keeper s.records n t).result (accepted f.keeper s.records n t).put;
+  came = λ n t. delivery_wires s t (accepted passes (of_accepting f) s.records n t).result (accepted passes (of_accepting f) s.records n t).put;
 }) (line_event line)
 
 pub on_wire : (s : State) (r : Step) (t : Tree) → r.sent ≡ Some t → (after s r).wire ≡ s.wire ++ t ∷ []

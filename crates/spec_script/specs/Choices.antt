@@ -4,6 +4,7 @@ use Rattle.spec_sealing.specs.Jws.{Algorithm}
 use Rattle.spec_exchange.specs.Outside.{Choice, no_fault}
 use Rattle.spec_exchange.specs.EntryChecks.{Claim, Verifying, by_meaning}
 use Rattle.spec_exchange.specs.Screens.{Passes}
+use Rattle.spec_exchange.specs.AcceptCalls as accepting
 
 -- what signs: by which algorithm, and the signature for an identity of an input
 pub record Signer : Type 0 where
@@ -20,6 +21,10 @@ pub record Choices : Type 0 where
   pub keeper : Choice
   pub signer : Signing
   pub verifier : Verifying
+
+-- as those of accepting
+abbrev pub of_accepting : Choices → accepting.Choices
+of_accepting f = record { keeper = f.keeper; verifier = f.verifier }
 
 -- what stays the same in a whole run: who signs, what the verifier says of a claim, and which messages the screen passes
 pub record Meanings : Type 0 where

@@ -5,6 +5,7 @@ use Rattle.spec_records.specs.Records.{Record}
 use Rattle.spec_exchange.specs.Outside.{Keeper}
 use Rattle.spec_script.specs.Choices.{Choices, Meanings, IsBy}
 use Rattle.spec_exchange.specs.EntryRefusals.{VerifierFailed}
+use Rattle.spec_exchange.specs.AcceptRefusals as accepting
 use Rattle.spec_exchange.specs.AcceptRefusals.{OfEntry}
 use Rattle.spec_exchange.specs.AcceptRuns
 use Rattle.spec_documents.specs.Lines.{lines_of, is_blank}
@@ -79,15 +80,20 @@ abbrev pub is_signer_refusal : Refusal → Bool
 is_signer_refusal SignerFailed = true
 is_signer_refusal _ = false
 
+-- the verifier failed at an entry
+abbrev pub is_verifier_failure : accepting.Refusal → Bool
+is_verifier_failure (OfEntry number VerifierFailed) = true
+is_verifier_failure _ = false
+
 abbrev pub is_verifier_refusal : Refusal → Bool
-is_verifier_refusal (OfReceiving (OfEntry number VerifierFailed) report) = true
+is_verifier_refusal (OfReceiving refusal report) = is_verifier_failure refusal
 is_verifier_refusal _ = false
 
 -- an answer that only a fault of keeper, signer or verifier, or a record that the keeper holds, gives
 abbrev pub is_outside_refusal : Refusal → Bool
 is_outside_refusal (OfOutside fault) = true
 is_outside_refusal SignerFailed = true
-is_outside_refusal (OfReceiving (OfEntry number VerifierFailed) report) = true
+is_outside_refusal (OfReceiving refusal report) = is_verifier_failure refusal
 is_outside_refusal _ = false
 
 -- a refusal after which a start may wait no longer

@@ -24,7 +24,7 @@ use Rattle.spec_script.specs.Refusals.{Refusal, BadEvent, NodeUnknown, NodeExist
 use Rattle.spec_script.specs.Messages.{message_in}
 use Rattle.spec_script.specs.Events.{HandedContext, Event, AddNode, AddContext, AddKeys, Send, Pass, Inject, Alter, Deliver, Restart, Reported, StartWith, AnswerTo, FinishBy, Terminate, EndBy, line_event}
 use Rattle.spec_script.specs.Offers.{offer_of}
-use Rattle.spec_script.specs.Choices.{Signing, Signs, SignerFails, Choices}
+use Rattle.spec_script.specs.Choices.{Signing, Signs, SignerFails, Choices, of_accepting}
 use Rattle.spec_script.specs.Altering.{altered}
 use Rattle.spec_script.specs.Reports.{report_on}
 use Rattle.spec_sealing.specs.Passing.{with_room, passed}
@@ -291,7 +291,7 @@ checked passes s f (Alter number ops) = do
 checked passes s f (Deliver node number) = do
   _ ← known_node s node
   t ← known_document s number
-  Ok (delivers s t (accepted passes (record { keeper = f.keeper; verifier = f.verifier }) s.records node t))
+  Ok (delivers s t (accepted passes (of_accepting f) s.records node t))
 checked passes s f (Restart node) = do
   _ ← known_node s node
   Ok (restarts s node)

@@ -4,7 +4,7 @@ use Rattle.spec_script.specs.Steps as spec
 use Rattle.spec_script.specs.Events.{Pass}
 use Rattle.block_forms.specs.declared.fault.LimitName.TheVariants as limits
 use Rattle.script_lines.specs.declared.refusal.Refusal.TheVariants as refusals
-use Rattle.replay_world.specs.Outsiders.{by, of_signer}
+use Rattle.replay_world.specs.Outsiders.{all_pass, by, event_steps, of_signer, only_signs}
 use Rattle.spec_documents.specs.Tree.{depth}
 use Rattle.replay_world.specs.Worlds.{IsShallow, state_of}
 use Rattle.replay_world.proofs.EventSteps.{passed_none, passed_full}
@@ -16,15 +16,15 @@ use Rattle.replay_world.proofs.passing.pass.Goals as goal
 pub returns-in-None-clause-handles : goal.returns-in-None-clause-handles
 returns-in-None-clause-handles g c =
     let none : spec.wire_at c.args.world.now.wire c.args.wire.now ≡ None = sym c.in-None.ensures in
-    signed_any _ _ _ λ x. alone_refused (λ s f. spec.step s (by x f) (Pass c.args.ipx c.args.wire.now (tree_of c.args.operations))) c.args.world.now c.args.number refusals.WireUnknown (λ e. cc) c.requires.sound
-    (λ records f. passed_none all_pass (state_of c.args.world.now records) (by x f) c.args.ipx c.args.wire.now (tree_of c.args.operations) none)
+    signed_any _ _ _ λ x. alone_refused (event_steps all_pass (only_signs x) (Pass c.args.ipx c.args.wire.now (tree_of c.args.operations))) c.args.world.now c.args.number refusals.WireUnknown (λ e. cc) c.requires.sound
+    (λ records f. passed_none all_pass (state_of c.args.world.now records) (by (only_signs x) f) c.args.ipx c.args.wire.now (tree_of c.args.operations) none)
 
 pub returns-then-is_full-clause-handles : goal.returns-then-is_full-clause-handles
 returns-then-is_full-clause-handles g c =
     let found : spec.wire_at c.args.world.now.wire c.args.wire.now ≡ Some c.in-Some.document.now = sym c.in-Some.ensures in
     let full : spec.is_full c.args.world.now.wire ≡ true = cc in
-    signed_any _ _ _ λ x. alone_refused (λ s f. spec.step s (by x f) (Pass c.args.ipx c.args.wire.now (tree_of c.args.operations))) c.args.world.now c.args.number (refusals.Limit limits.Wire) (λ e. cc) c.requires.sound
-    (λ records f. passed_full all_pass (state_of c.args.world.now records) (by x f) c.args.ipx c.args.wire.now (tree_of c.args.operations) c.in-Some.document.now found full)
+    signed_any _ _ _ λ x. alone_refused (event_steps all_pass (only_signs x) (Pass c.args.ipx c.args.wire.now (tree_of c.args.operations))) c.args.world.now c.args.number (refusals.Limit limits.Wire) (λ e. cc) c.requires.sound
+    (λ records f. passed_full all_pass (state_of c.args.world.now records) (by (only_signs x) f) c.args.ipx c.args.wire.now (tree_of c.args.operations) c.in-Some.document.now found full)
 
 pub returns-in-Ok-put_made-clause-handles : goal.returns-in-Ok-put_made-clause-handles
 returns-in-Ok-put_made-clause-handles g c =
@@ -36,7 +36,7 @@ returns-in-Ok-put_made-clause-handles g c =
 
 pub returns-in-Ok-clause-handles : goal.returns-in-Ok-clause-handles
 returns-in-Ok-clause-handles g c =
-    signed_any _ _ _ λ x. alone_memory (λ s f. spec.step s (by x f) (Pass c.args.ipx c.args.wire.now (tree_of c.args.operations))) c.args.world.now c.put_made.new.world c.args.number c.requires.sound c.in-Err-put_made.ensures.goes_on
+    signed_any _ _ _ λ x. alone_memory (event_steps all_pass (only_signs x) (Pass c.args.ipx c.args.wire.now (tree_of c.args.operations))) c.args.world.now c.put_made.new.world c.args.number c.requires.sound c.in-Err-put_made.ensures.goes_on
 
 pub returns-clause-handles : goal.returns-clause-handles
 returns-clause-handles g c =
