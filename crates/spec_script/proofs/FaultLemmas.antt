@@ -1,4 +1,4 @@
--- Faults of the keeper: how many are answered, and what is answered without them.
+-- Faults of the outside: how many are answered, and what is answered without them.
 use Rattle.std.proofs.Common.{◌≡◌, ℕ, ◌+◌, ◌≤◌, Bool, true, false, List, [], ◌∷◌, Result, Ok, Err, refl, sym, ap, ◌∙◌, cond, arith}
 use Rattle.std.specs.Prelude.{count_by}
 use Rattle.std.proofs.lemmas.List.Sums.{sum_by-cons}
@@ -8,17 +8,22 @@ use Rattle.spec_sealing.specs.Received.{Received}
 use Rattle.spec_sealing.specs.Entries.{signed_entry}
 use Rattle.spec_sealing.specs.Passing.{tag_text, with_room, with_entry}
 use Rattle.spec_exchange.specs.Chain.{◌>>=◌, or_refused}
-use Rattle.spec_exchange.specs.ReceivingRefusals as receiving
+use Rattle.spec_exchange.specs.AcceptRefusals as accepting
+use Rattle.spec_exchange.specs.Screens.{Passes}
+use Rattle.spec_exchange.specs.EntryChecks.{Claim, Verifying}
+use Rattle.spec_exchange.specs.Accepting.{first_failed}
+use Rattle.spec_exchange.specs.AcceptCalls.{accepted}
 use Rattle.spec_exchange.specs.SendingRefusals as sending
 use Rattle.spec_exchange.specs.Outside.{Choice, Cause, Own, Outside, no_fault, Reading, Read, ReadFails, BadRecord, Putting, Kept, Lost, KeptUntold, Outcome, behind_reading, or_refusal}
 use Rattle.spec_exchange.specs.Outside as outside
-use Rattle.spec_exchange.specs.FirstFailed.{Delivery, first_failed}
+use Rattle.spec_exchange.specs.FirstFailed.{Delivery}
 use Rattle.spec_exchange.specs.Calls.{Sealed, delivered_record, sent_record, protected}
 use Rattle.spec_script.specs.Refusals.{Refusal, BadForm, SignerFailed}
 use Rattle.spec_script.specs.Events.{Event, AddNode, AddContext, AddKeys, Send, Pass, Inject, Alter, Deliver, Restart, Reported}
-use Rattle.spec_script.specs.Choices.{Signer, Signing, Signs, SignerFails, Choices, Meanings, SignsBy, IsBy, unfailing}
+use Rattle.spec_script.specs.Choices.{Signer, Signing, Signs, SignerFails, Choices, Meanings, SignsBy, VerifiesBy, IsBy, unfailing, of_accepting}
 use Rattle.spec_script.specs.Steps.{State, Answer, Step, or_refuses, puts, forwards, sends_sealed, sealed_answer, delivers, delivery_answer, has_read, passes_on, opens, keys_up, step, step_with}
-use Rattle.spec_script.specs.Output.{RoseBy, HaveCauses, count_after, has_refusal, is_outside_refusal}
+use Rattle.spec_script.specs.Output.{RoseBy, HaveCauses, count_after, has_refusal, is_verifier_failure, is_outside_refusal}
+use Rattle.spec_script.proofs.VerifierLemmas.{SameChecks, accepting-same}
 
 -- ---- counts
 
@@ -64,47 +69,58 @@ step_puts s Kept name r = step_self _
 step_puts s Lost name r = record { is = λ e. cc }
 step_puts s KeptUntold name r = record { is = λ e. cc }
 
--- a call is the other, where it answers no fault
-abbrev faulty : {R T : Type 0} → Result T (Cause R) → Bool
-faulty (Ok x) = false
-faulty (Err (Own refusal)) = false
-faulty (Err (Outside fault)) = true
+-- a call is the other, where it answers no fault of the outside. Some refusals of its own are such faults
+abbrev faulty : {R T : Type 0} → (R → Bool) → Result T (Cause R) → Bool
+faulty bad (Ok x) = false
+faulty bad (Err (Own refusal)) = bad refusal
+faulty bad (Err (Outside fault)) = true
 
-record SameCall {R T : Type 0} (o p : Outcome R T) : Type 0 where
-  is : faulty o.result ≡ false → o ≡ p
+record SameCall {R T : Type 0} (bad : R → Bool) (o p : Outcome R T) : Type 0 where
+  is : faulty bad o.result ≡ false → o ≡ p
 
-call_self : {R T : Type 0} (o : Outcome R T) → SameCall o o
-call_self o = record { is = λ e. refl }
+call_self : {R T : Type 0} (bad : R → Bool) (o : Outcome R T) → SameCall bad o o
+call_self bad o = record { is = λ e. refl }
 
-call_read : {R T : Type 0} (reading : Reading) (o p : Outcome R T) → SameCall o p → SameCall (behind_reading reading o) (behind_reading Read p)
-call_read Read o p h = h
-call_read ReadFails o p h = record { is = λ e. cc }
-call_read (BadRecord k) o p h = record { is = λ e. cc }
+call_read : {R T : Type 0} (bad : R → Bool) (reading : Reading) (o p : Outcome R T) → SameCall bad o p → SameCall bad (behind_reading reading o) (behind_reading Read p)
+call_read bad Read o p h = h
+call_read bad ReadFails o p h = record { is = λ e. cc }
+call_read bad (BadRecord k) o p h = record { is = λ e. cc }
 
-call_puts : {R T : Type 0} (p : Putting) (r : Record) (x : T) → SameCall {R = R} (outside.puts p r x) (outside.puts Kept r x)
-call_puts Kept r x = call_self _
-call_puts Lost r x = record { is = λ e. cc }
-call_puts KeptUntold r x = record { is = λ e. cc }
+call_puts : {R T : Type 0} (bad : R → Bool) (p : Putting) (r : Record) (x : T) → SameCall {R = R} bad (outside.puts p r x) (outside.puts Kept r x)
+call_puts bad Kept r x = call_self bad _
+call_puts bad Lost r x = record { is = λ e. cc }
+call_puts bad KeptUntold r x = record { is = λ e. cc }
 
-call_chain : {R X : Type 0} (p : Putting) (item : X → Record) (r : Result X R) → SameCall (or_refusal r (λ y. outside.puts p (item y) y)) (or_refusal r (λ y. outside.puts Kept (item y) y))
-call_chain p item (Ok x) = call_puts p (item x) x
-call_chain p item (Err d) = call_self _
+call_chain : {R X : Type 0} (bad : R → Bool) (p : Putting) (item : X → Record) (r q : Result X R) → SameChecks bad r q
+    → SameCall bad (or_refusal r (λ y. outside.puts p (item y) y)) (or_refusal q (λ y. outside.puts Kept (item y) y))
+call_chain bad p item (Ok x) q h = record { is = λ e. (call_puts bad p (item x) x).is e ∙ ap (λ z. or_refusal z (λ y. outside.puts Kept (item y) y)) (h.is refl) }
+call_chain bad p item (Err d) q h = record { is = λ e. ap (λ z. or_refusal z (λ y. outside.puts Kept (item y) y)) (h.is e) }
 
-sealed_faulty : (n : ℕ) (r : Result Sealed (Cause sending.Refusal)) → has_refusal is_outside_refusal (sealed_answer n r) ≡ faulty r
+abbrev no_failure : sending.Refusal → Bool
+no_failure refusal = false
+
+sealed_faulty : (n : ℕ) (r : Result Sealed (Cause sending.Refusal)) → has_refusal is_outside_refusal (sealed_answer n r) ≡ faulty no_failure r
 sealed_faulty n (Ok x) = refl
 sealed_faulty n (Err (Own refusal)) = refl
 sealed_faulty n (Err (Outside fault)) = refl
 
-delivery_faulty : (t : Tree) (r : Result Delivery (Cause receiving.Refusal)) → has_refusal is_outside_refusal (delivery_answer t r) ≡ faulty r
+delivery_faulty : (t : Tree) (r : Result Delivery (Cause accepting.Refusal)) → has_refusal is_outside_refusal (delivery_answer t r) ≡ faulty is_verifier_failure r
 delivery_faulty t (Ok x) = refl
 delivery_faulty t (Err (Own refusal)) = refl
 delivery_faulty t (Err (Outside fault)) = refl
 
-sealed-same : (s : State) (o p : Outcome sending.Refusal Sealed) → SameCall o p → SameStep (sends_sealed s o) (sends_sealed s p)
+sealed-same : (s : State) (o p : Outcome sending.Refusal Sealed) → SameCall no_failure o p → SameStep (sends_sealed s o) (sends_sealed s p)
 sealed-same s o p h = record { is = λ z. ap (sends_sealed s) (h.is (sym (sealed_faulty _ o.result) ∙ z)) }
 
-delivery-same : (s : State) (t : Tree) (o p : Outcome receiving.Refusal Delivery) → SameCall o p → SameStep (delivers s t o) (delivers s t p)
+delivery-same : (s : State) (t : Tree) (o p : Outcome accepting.Refusal Delivery) → SameCall is_verifier_failure o p → SameStep (delivers s t o) (delivers s t p)
 delivery-same s t o p h = record { is = λ z. ap (delivers s t) (h.is (sym (delivery_faulty t o.result) ∙ z)) }
+
+-- a document is accepted as without faults
+accepted-same : (m : Meanings) (f : Choices) → VerifiesBy m.verifier f.verifier → (records : List Record) (node : List ℕ) (t : Tree)
+    → SameCall is_verifier_failure (accepted m.passes (of_accepting f) records node t) (accepted m.passes (of_accepting (unfailing m)) records node t)
+accepted-same m f by records node t = call_read is_verifier_failure f.keeper.reading _ _
+    (call_chain is_verifier_failure f.keeper.putting delivered_record _ _
+    (rw by.is (accepting-same m.passes m.verifier by.failing records node t)))
 
 -- a signer that fails is told behind the document's form
 unsigned : (s : State) (g : Signer) (ipx : List ℕ) (operations t : Tree) (r : Result Received (List ℕ))
@@ -123,20 +139,20 @@ opens-same s f x = step_read s f.reading _ _ (step_bind s _ _ _ λ new. step_bin
 keys-same : (s : State) (f : Choice) (node : List ℕ) (id : ℕ) (set : KeySet) → SameStep (or_refuses s (keys_up s f node id set)) (or_refuses s (keys_up s no_fault node id set))
 keys-same s f node id set = step_read s f.reading _ _ (step_bind s _ _ _ λ x. step_bind s _ _ _ λ new. step_bind s _ _ _ λ fit. step_bind s _ _ _ λ room. step_puts s f.putting _ _)
 
-step-same : (m : Meanings) (s : State) (f : Choices) → IsBy m f → (e : Event) → SameStep (step s f e) (step s (unfailing m) e)
+step-same : (m : Meanings) (s : State) (f : Choices) → IsBy m f → (e : Event) → SameStep (step m.passes s f e) (step m.passes s (unfailing m) e)
 step-same m s f by (AddNode node plmn) = step_self _
 step-same m s f by (AddContext x) = step_bind s _ _ _ λ plmn. step_bind s _ _ _ λ policy. opens-same s f.keeper _
 step-same m s f by (AddKeys node id set) = step_bind s _ _ _ λ plmn. keys-same s f.keeper node id set
 step-same m s f by (Send node id t answers) = step_bind s _ _ _ λ plmn. step_bind s _ _ _ λ room. step_bind s _ _ _ λ x.
-    sealed-same s _ _ (call_read f.keeper.reading _ _ (call_chain f.keeper.putting sent_record (protected s.records node id x.0 x.1)))
-step-same m s f by (Pass ipx number operations) = step_bind s _ _ _ λ t. step_bind s _ _ _ λ room. passed-same s m.signer f.signer ipx operations t by
+    sealed-same s _ _ (call_read no_failure f.keeper.reading _ _ (call_chain no_failure f.keeper.putting sent_record (protected s.records node id x.0 x.1) _ (record { is = λ e. refl })))
+step-same m s f by (Pass ipx number operations) = step_bind s _ _ _ λ t. step_bind s _ _ _ λ room. passed-same s m.signer f.signer ipx operations t by.signs
 step-same m s f by (Inject t) = step_self _
 step-same m s f by (Alter number ops) = step_self _
 step-same m s f by (Deliver node number) = step_bind s _ _ _ λ plmn. step_bind s _ _ _ λ t.
-    delivery-same s t _ _ (call_read f.keeper.reading _ _ (call_chain f.keeper.putting delivered_record (first_failed s.records node t)))
+    delivery-same s t _ _ (accepted-same m f by.verifies s.records node t)
 step-same m s f by (Restart node) = step_self _
 step-same m s f by (Reported node t) = step_self _
 
-pub line_determined : (m : Meanings) (s : State) (f : Choices) → IsBy m f → (r : Result Event Refusal) → has_refusal is_outside_refusal (step_with s f r).answer ≡ false → step_with s f r ≡ step_with s (unfailing m) r
+pub line_determined : (m : Meanings) (s : State) (f : Choices) → IsBy m f → (r : Result Event Refusal) → has_refusal is_outside_refusal (step_with m.passes s f r).answer ≡ false → step_with m.passes s f r ≡ step_with m.passes s (unfailing m) r
 line_determined m s f by (Ok e) h = (step-same m s f by e).is h
 line_determined m s f by (Err e) h = refl

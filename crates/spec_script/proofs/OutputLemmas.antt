@@ -7,18 +7,22 @@ use Rattle.std.proofs.lemmas.Grind.{common_steps}
 use Rattle.std.proofs.lemmas.List.{append-nil}
 use Rattle.spec_documents.specs.Tree.{Tree}
 use Rattle.spec_messages.specs.Message.{Message, Kind}
-use Rattle.spec_records.specs.Records.{Record, own, is_delivery, is_numbered, was_delivered, was_sent}
-use Rattle.spec_exchange.specs.ReceivingRefusals as receiving
+use Rattle.spec_records.specs.Records.{Record, was_delivered, was_sent}
+use Rattle.spec_exchange.specs.AcceptRefusals as accepting
 use Rattle.spec_exchange.specs.SendingRefusals as sending
 use Rattle.spec_exchange.specs.Outside.{Cause, Putting, Kept, Lost, KeptUntold, with_put}
 use Rattle.spec_exchange.specs.FirstFailed.{Delivery}
-use Rattle.spec_exchange.specs.Calls.{Sealed, Outgoing, accepted, sends}
-use Rattle.spec_exchange.specs.Runs
-use Rattle.spec_exchange.proofs.RunLemmas.{bit, bit-below, held-more, delivered-step, numbered-step}
+use Rattle.spec_exchange.specs.Calls.{Sealed, sends}
+use Rattle.spec_exchange.specs.Screens.{Passes}
+use Rattle.spec_exchange.specs.AcceptCalls.{accepted}
+use Rattle.spec_exchange.specs.Runs.{Call, Deliver, Send, Puts}
+use Rattle.spec_exchange.specs.AcceptRuns
+use Rattle.spec_exchange.proofs.RunLemmas.{bit}
+use Rattle.spec_exchange.proofs.AcceptRunLemmas.{accepted-once, sent-once}
 use Rattle.spec_documents.specs.Lines.{is_blank, Outputs}
 use Rattle.spec_script.specs.Events.{line_event}
-use Rattle.spec_script.specs.Choices.{Choices, Meanings}
-use Rattle.spec_script.specs.Steps.{State, Answer, Step, refuses, does, injects, forwards, reports, adds_node, puts, sends_sealed, sealed_answer, delivers, delivery_answer, line_step}
+use Rattle.spec_script.specs.Choices.{Choices, Meanings, of_accepting}
+use Rattle.spec_script.specs.Steps.{State, Answer, Step, after, puts, sealed_answer, delivery_answer, line_step}
 use Rattle.spec_script.specs.Answers.{answer_text}
 use Rattle.spec_script.specs.Output.{Answers, Answered, Numbered, answers_text, GivesAnswer, reply_in}
 use Rattle.spec_script.specs.Output as output
@@ -31,90 +35,94 @@ pub by_line : {B N P : Type 0} (b : Bool) → MatchBool b B N → (b ≡ true �
 by_line true h blank spoken = blank refl h
 by_line false h blank spoken = spoken refl h
 
--- ---- counts that a bit of the records bounds
+-- ---- a run of a script is one of calls
 
--- an answer that passes is of a record of this context that passes, and that was not there
-abbrev pub Counts : (Runs.Reply → Bool) → (Record → Bool) → List ℕ → ℕ → State → Step → Type 0
-Counts p q node id s r = bit (p (reply_in r.answer)) + bit (list_any q (own node id s.records)) ≤ bit (list_any q (own node id (with_put s.records r.put)))
+-- a test of replies that no refusal passes
+record OfReplies (p : AcceptRuns.Reply → Bool) : Type 0 where
+  undelivered : (e : Cause accepting.Refusal) → p (AcceptRuns.NotDelivered e) ≡ p AcceptRuns.Other
+  unsent : (e : Cause sending.Refusal) → p (AcceptRuns.NotSent e) ≡ p AcceptRuns.Other
 
-uncounted : (p : Runs.Reply → Bool) (q : Record → Bool) (node : List ℕ) (id : ℕ) (s : State) (r : Step) → p (reply_in r.answer) ≡ false → Counts p q node id s r
-uncounted p q node id s r e = rw e (omega (arith, held-more q node id s.records r.put))
+-- a call whose reply passes where the answer does, and which puts the same record
+record IsCall (p : AcceptRuns.Reply → Bool) (passes : Passes) (s : State) (f : Choices) (r : Step) : Type 0 where
+  call : Call
+  put : r.put ≡ AcceptRuns.put_of passes s.records (of_accepting f) call
+  reply : p (reply_in r.answer) ≡ p (AcceptRuns.reply_of passes s.records (of_accepting f) call)
 
-put_not : (p : Runs.Reply → Bool) → p Runs.Other ≡ false → (s : State) (k : Putting) (name : List ℕ) (r : Record) → p (reply_in (puts s k name r).answer) ≡ false
-put_not p e s Kept name r = e
-put_not p e s Lost name r = e
-put_not p e s KeptUntold name r = e
+other_call : (p : AcceptRuns.Reply → Bool) (passes : Passes) (s : State) (f : Choices) (r : Step) → p (reply_in r.answer) ≡ p AcceptRuns.Other → IsCall p passes s f r
+other_call p passes s f r e = record { call = Puts r.put; put = refl; reply = e }
 
--- an event counts, where its own calls do
-counts : (p : Runs.Reply → Bool) (q : Record → Bool) (node : List ℕ) (id : ℕ) (s : State) (f : Choices) → p Runs.Other ≡ false
-    → ((n : List ℕ) (i : ℕ) (o : Outgoing) (m : Message) → Counts p q node id s (sends_sealed s (sends f.keeper s.records n i o m)))
-    → ((n : List ℕ) (t : Tree) → Counts p q node id s (delivers s t (accepted f.keeper s.records n t)))
-    → (line : List ℕ) → Counts p q node id s (line_step s f line)
-counts p q node id s f e sealed came line = line_covered (λ r. Counts p q node id s r) s f (record {
-  refused = λ d. uncounted p q node id s (refuses s d) e;
-  done = λ name. uncounted p q node id s (does s name) e;
-  node = λ n plmn. uncounted p q node id s (adds_node s n plmn) e;
-  put = λ name r. uncounted p q node id s (puts s f.keeper.putting name r) (put_not p e s f.keeper.putting name r);
-  injected = λ t. uncounted p q node id s (injects s t) e;
-  forwarded = λ t. uncounted p q node id s (forwards s t) e;
-  reported = λ r. uncounted p q node id s (reports s r) e;
-  sealed = sealed;
-  came = came;
+put_other : (p : AcceptRuns.Reply → Bool) (s : State) (k : Putting) (name : List ℕ) (r : Record) → p (reply_in (puts s k name r).answer) ≡ p AcceptRuns.Other
+put_other p s Kept name r = refl
+put_other p s Lost name r = refl
+put_other p s KeptUntold name r = refl
+
+came_told : (p : AcceptRuns.Reply → Bool) → OfReplies p → (t : Tree) (r : Result Delivery (Cause accepting.Refusal)) → p (reply_in (delivery_answer t r)) ≡ p (AcceptRuns.told r)
+came_told p h t (Ok d) = refl
+came_told p h t (Err e) = sym (h.undelivered e)
+
+sealed_made : (p : AcceptRuns.Reply → Bool) → OfReplies p → (n : ℕ) (r : Result Sealed (Cause sending.Refusal)) → p (reply_in (sealed_answer n r)) ≡ p (AcceptRuns.made r)
+sealed_made p h n (Ok x) = refl
+sealed_made p h n (Err e) = sym (h.unsent e)
+
+line_call : (p : AcceptRuns.Reply → Bool) → OfReplies p → (passes : Passes) (s : State) (f : Choices) (line : List ℕ) → IsCall p passes s f (line_step passes s f line)
+line_call p h passes s f line = line_covered (λ r. IsCall p passes s f r) passes s f (record {
+  refused = λ d. other_call p passes s f _ refl;
+  done = λ name. other_call p passes s f _ refl;
+  node = λ n plmn. other_call p passes s f _ refl;
+  put = λ name r. other_call p passes s f _ (put_other p s f.keeper.putting name r);
+  injected = λ t. other_call p passes s f _ refl;
+  forwarded = λ t. other_call p passes s f _ refl;
+  reported = λ r. other_call p passes s f _ refl;
+  sealed = λ n i o m. record { call = Send n i o m; put = refl; reply = sealed_made p h _ (sends f.keeper s.records n i o m).result };
+  came = λ n t. record { call = Deliver n t; put = refl; reply = came_told p h t (accepted passes (of_accepting f) s.records n t).result };
 }) (line_event line)
 
-delivers_told : (node : List ℕ) (id : ℕ) (kind : Kind) (message : ℕ) (t : Tree) (r : Result Delivery (Cause receiving.Refusal)) → Runs.delivers node id kind message (reply_in (delivery_answer t r)) ≡ Runs.delivers node id kind message (Runs.told r)
-delivers_told node id kind message t (Ok d) = refl
-delivers_told node id kind message t (Err e) = refl
+abbrev passing : (AcceptRuns.Reply → Bool) → List Numbered → ℕ
+passing p answers = count_by (λ (x : Numbered). p (reply_in x.1)) answers
 
-numbers_made : (node : List ℕ) (id : ℕ) (kind : Kind) (seq n : ℕ) (r : Result Sealed (Cause sending.Refusal)) → Runs.numbers node id kind seq (reply_in (sealed_answer n r)) ≡ Runs.numbers node id kind seq (Runs.made r)
-numbers_made node id kind seq n (Ok x) = refl
-numbers_made node id kind seq n (Err e) = refl
+-- calls of which as many replies pass as answers do
+record IsRun (p : AcceptRuns.Reply → Bool) (passes : Passes) (records : List Record) (answers : List Numbered) : Type 0 where
+  events : List AcceptRuns.Event
+  count : passing p answers ≡ count_by p (AcceptRuns.replies passes records events)
 
-sealed_not : (node : List ℕ) (id : ℕ) (kind : Kind) (message n : ℕ) (r : Result Sealed (Cause sending.Refusal)) → Runs.delivers node id kind message (reply_in (sealed_answer n r)) ≡ false
-sealed_not node id kind message n (Ok x) = refl
-sealed_not node id kind message n (Err e) = refl
+one_more : (p : AcceptRuns.Reply → Bool) (passes : Passes) (s mid : State) (f : Choices) (r : Step) (n : ℕ) (a : Answer) (rest : List Numbered)
+    → IsCall p passes s f r → a ≡ r.answer → mid ≡ after s r → IsRun p passes mid.records rest → IsRun p passes s.records ((n, a) ∷ rest)
+one_more p passes s mid f r n a rest c told left run =
+    let held : mid.records ≡ AcceptRuns.after passes s.records (of_accepting f) c.call = ap (λ (z : State). z.records) left ∙ ap (with_put s.records) c.put in
+    let same : bit (p (reply_in a)) ≡ bit (p (AcceptRuns.reply_of passes s.records (of_accepting f) c.call)) = ap bit (ap (λ (z : Answer). p (reply_in z)) told ∙ c.reply) in
+    let later : count_by p (AcceptRuns.replies passes mid.records run.events) ≡ count_by p (AcceptRuns.replies passes (AcceptRuns.after passes s.records (of_accepting f) c.call) run.events) =
+        ap (λ (z : List Record). count_by p (AcceptRuns.replies passes z run.events)) held in
+    record {
+      events = (of_accepting f, c.call) ∷ run.events;
+      count = omega (arith, sum_by-cons (λ (x : Numbered). bit (p (reply_in x.1))) (n, a) rest, same, run.count, later,
+          sum_by-cons (λ x. bit (p x)) (AcceptRuns.reply_of passes s.records (of_accepting f) c.call) (AcceptRuns.replies passes (AcceptRuns.after passes s.records (of_accepting f) c.call) run.events));
+    }
 
-came_not : (node : List ℕ) (id : ℕ) (kind : Kind) (seq : ℕ) (t : Tree) (r : Result Delivery (Cause receiving.Refusal)) → Runs.numbers node id kind seq (reply_in (delivery_answer t r)) ≡ false
-came_not node id kind seq t (Ok d) = refl
-came_not node id kind seq t (Err e) = refl
-
-delivers-counts : (node : List ℕ) (id : ℕ) (kind : Kind) (message : ℕ) (s : State) (f : Choices) (line : List ℕ) → Counts (Runs.delivers node id kind message) (is_delivery kind message) node id s (line_step s f line)
-delivers-counts node id kind message s f = counts (Runs.delivers node id kind message) (is_delivery kind message) node id s f refl
-    (λ n i o m. uncounted (Runs.delivers node id kind message) (is_delivery kind message) node id s (sends_sealed s (sends f.keeper s.records n i o m)) (sealed_not node id kind message _ (sends f.keeper s.records n i o m).result))
-    (λ n t. rw delivers_told (delivered-step node id kind message s.records f.keeper (Runs.Deliver n t)))
-
-numbers-counts : (node : List ℕ) (id : ℕ) (kind : Kind) (seq : ℕ) (s : State) (f : Choices) (line : List ℕ) → Counts (Runs.numbers node id kind seq) (is_numbered kind seq) node id s (line_step s f line)
-numbers-counts node id kind seq s f = counts (Runs.numbers node id kind seq) (is_numbered kind seq) node id s f refl
-    (λ n i o m. rw numbers_made (numbered-step node id kind seq s.records f.keeper (Runs.Send n i o m)))
-    (λ n t. uncounted (Runs.numbers node id kind seq) (is_numbered kind seq) node id s (delivers s t (accepted f.keeper s.records n t)) (came_not node id kind seq t (accepted f.keeper s.records n t).result))
-
--- one answer more
-one_more : (m : Meanings) (p : Runs.Reply → Bool) (q : Record → Bool) (node : List ℕ) (id : ℕ) → ((s : State) (f : Choices) (line : List ℕ) → Counts p q node id s (line_step s f line))
-    → (s : State) (line : List ℕ) (a : Answer) (mid : State) → Answers m s line a mid → bit (p (reply_in a)) + bit (list_any q (own node id s.records)) ≤ bit (list_any q (own node id mid.records))
-one_more m p q node id each s line a mid h = rw (h.2, h.3) (each s h.0 line)
-
--- over a whole run
-run-counts : (m : Meanings) (p : Runs.Reply → Bool) (q : Record → Bool) (node : List ℕ) (id : ℕ) → ((s : State) (f : Choices) (line : List ℕ) → Counts p q node id s (line_step s f line))
-    → (s : State) (n : ℕ) (lines : List (List ℕ)) (answers : List Numbered) (last : State) → Answered m s n lines answers last → count_by (λ (x : Numbered). p (reply_in x.1)) answers + bit (list_any q (own node id s.records)) ≤ 1
-run-counts m p q node id each s n [] answers last h = rw (h.0) (omega (arith, bit-below (list_any q (own node id s.records))))
-run-counts m p q node id each s n (line ∷ lines) answers last h =
-    by_line (is_blank line) h
-    (λ blank k. run-counts m p q node id each s (n + 1) lines answers last k)
-    λ spoken k. spoken_counts k (run-counts m p q node id each k.2 (n + 1) lines k.1 last k.5)
+run_of : (m : Meanings) (p : AcceptRuns.Reply → Bool) → OfReplies p → (s : State) (n : ℕ) (lines : List (List ℕ)) (answers : List Numbered) (last : State) → Answered m s n lines answers last → IsRun p m.passes s.records answers
+run_of m p h s n [] answers last e = rw (e.0) (record { events = []; count = refl })
+run_of m p h s n (line ∷ lines) answers last e =
+    by_line (is_blank line) e
+    (λ blank k. run_of m p h s (n + 1) lines answers last k)
+    λ spoken k. spoken_run k (run_of m p h k.2 (n + 1) lines k.1 last k.5)
   where
-    spoken_counts : (k : (a : Answer) × (rest : List Numbered) × (mid : State) × (answers ≡ (n, a) ∷ rest) × Answers m s line a mid × Answered m mid (n + 1) lines rest last)
-        → count_by (λ (x : Numbered). p (reply_in x.1)) k.1 + bit (list_any q (own node id k.2.records)) ≤ 1
-        → count_by (λ (x : Numbered). p (reply_in x.1)) answers + bit (list_any q (own node id s.records)) ≤ 1
-    spoken_counts k ih = rw (k.3)
-        (omega (arith, sum_by-cons (λ (x : Numbered). bit (p (reply_in x.1))) (n, k.0) k.1, one_more m p q node id each s line k.0 k.2 k.4, ih))
+    spoken_run : (k : (a : Answer) × (rest : List Numbered) × (mid : State) × (answers ≡ (n, a) ∷ rest) × Answers m s line a mid × Answered m mid (n + 1) lines rest last)
+        → IsRun p m.passes k.2.records k.1 → IsRun p m.passes s.records answers
+    spoken_run k run = rw (k.3)
+        (one_more p m.passes s k.2 k.4.0 (line_step m.passes s k.4.0 line) n k.0 k.1 (line_call p h m.passes s k.4.0 line) k.4.2 k.4.3 run)
+
+-- ---- once
 
 pub run-delivered : (m : Meanings) (s : State) (n : ℕ) (lines : List (List ℕ)) (answers : List Numbered) (last : State) → Answered m s n lines answers last → (node : List ℕ) (id : ℕ) (kind : Kind) (message : ℕ)
     → count_by (output.delivers node id kind message) answers + bit (was_delivered node id kind message s.records) ≤ 1
-run-delivered m s n lines answers last h node id kind message = run-counts m (Runs.delivers node id kind message) (is_delivery kind message) node id (delivers-counts node id kind message) s n lines answers last h
+run-delivered m s n lines answers last h node id kind message =
+    let w = run_of m (AcceptRuns.delivers node id kind message) (record { undelivered = λ e. refl; unsent = λ e. refl }) s n lines answers last h in
+    omega (arith, w.count, accepted-once m.passes s.records w.events node id kind message)
 
 pub run-numbered : (m : Meanings) (s : State) (n : ℕ) (lines : List (List ℕ)) (answers : List Numbered) (last : State) → Answered m s n lines answers last → (node : List ℕ) (id : ℕ) (kind : Kind) (seq : ℕ)
     → count_by (output.numbers node id kind seq) answers + bit (was_sent node id kind seq s.records) ≤ 1
-run-numbered m s n lines answers last h node id kind seq = run-counts m (Runs.numbers node id kind seq) (is_numbered kind seq) node id (numbers-counts node id kind seq) s n lines answers last h
+run-numbered m s n lines answers last h node id kind seq =
+    let w = run_of m (AcceptRuns.numbers node id kind seq) (record { undelivered = λ e. refl; unsent = λ e. refl }) s n lines answers last h in
+    omega (arith, w.count, sent-once m.passes s.records w.events node id kind seq)
 
 -- ---- records grow
 
@@ -132,7 +140,7 @@ grown_then : (n : ℕ) (a b c : List Record) → Grown 1 a b → Grown n b c →
 grown_then n a b c g h = record { more = g.more ++ h.more; are = grind (arith, common_steps); most = grind (arith, common_steps) }
 
 one_grown : (m : Meanings) (s : State) (line : List ℕ) (a : Answer) (mid : State) → Answers m s line a mid → Grown 1 s.records mid.records
-one_grown m s line a mid h = rw (h.3) (grown_one s.records (line_step s h.0 line).put)
+one_grown m s line a mid h = rw (h.3) (grown_one s.records (line_step m.passes s h.0 line).put)
 
 pub run-grown : (m : Meanings) (s : State) (n : ℕ) (lines : List (List ℕ)) (answers : List Numbered) (last : State) → Answered m s n lines answers last → Grown (length answers) s.records last.records
 run-grown m s n [] answers last h = rw (h.0, h.1) (record { more = []; are = sym (append-nil s.records); most = omega arith })
