@@ -1,8 +1,8 @@
 -- Steps that the calls of a handshake come to.
-use Rattle.std.proofs.Common.{◌≡◌, ◌⊎◌, ℕ, Bool, true, false, List, Option, Some, None, Result, Ok, Err, refl, ap, ◌∙◌, cond, inl, inr}
+use Rattle.std.proofs.Common.{◌≡◌, ℕ, Bool, true, false, List, Option, Some, None, Result, Ok, Err, refl, ap, ◌∙◌, cond, inl, inr}
 use Rattle.std.specs.Prelude.{option_map}
 use Rattle.spec_documents.specs.Tree.{Tree}
-use Rattle.spec_records.specs.Records.{Record, Offered, Opened, Closed}
+use Rattle.spec_records.specs.Records.{Record, Opened, Closed}
 use Rattle.spec_exchange.specs.Outside.{Choice, Cause, Own, Outside, Journal, Keeper, Reading, Read, ReadFails, BadRecord, Putting, Kept, Lost, KeptUntold, Outcome, behind_reading, or_refusal}
 use Rattle.spec_exchange.specs.Outside as outside
 use Rattle.spec_exchange.specs.Calls.{Sealed}
@@ -10,11 +10,11 @@ use Rattle.spec_exchange.specs.AcceptRuns
 use Rattle.spec_handshake.specs.Documents.{Document, document_tree}
 use Rattle.spec_handshake.specs.Refusals as handshake
 use Rattle.spec_handshake.specs.Refusals.{ends_start}
-use Rattle.spec_handshake.specs.Starts.{Offer, Start, without_first, first_goes_on}
+use Rattle.spec_handshake.specs.Starts.{Offer, Start, without_first}
 use Rattle.spec_handshake.specs.Calls as calls
 use Rattle.spec_handshake.specs.Runs.{reply_document, next_document}
 use Rattle.spec_script.specs.Refusals.{Refusal}
-use Rattle.spec_script.specs.Steps.{State, Answer, OnWire, Sends, Forwards, Opens, OpensAs, EndsTls, Refuses, next_number, replied_answer, finished_answer}
+use Rattle.spec_script.specs.Steps.{State, Answer, OnWire, Sends, Forwards, Opens, Refuses, next_number, replied_answer, finished_answer}
 use Rattle.spec_script.specs.Output.{has_refusal, is_outside_refusal, reply_in, LosesOne}
 
 -- ---- what is told

@@ -4,3 +4,4 @@ pub mod VerifierLemmas
 pub mod FaultLemmas
 pub mod OutputLemmas
 pub mod StateLemmas
+pub mod StartLemmas

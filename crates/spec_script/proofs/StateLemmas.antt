@@ -1,22 +1,25 @@
 -- What a step leaves of the state.
-use Rattle.std.proofs.Common.{◌≡◌, ℕ, suc, ◌+◌, true, false, List, [], ◌∷◌, ◌++◌, length, pos, Option, Some, None, Result, Ok, Err, refl, ap, ◌∙◌, arith, Bool}
+use Rattle.std.proofs.Common.{◌≡◌, ℕ, suc, ◌+◌, true, false, List, [], ◌∷◌, ◌++◌, length, pos, Option, Some, None, Result, Ok, Err, refl, ap, ◌∙◌, arith}
 use Rattle.std.specs.Prelude.{slice_get}
 use Rattle.spec_documents.specs.Tree.{Tree}
 use Rattle.spec_records.specs.Records.{Record}
 use Rattle.spec_exchange.specs.AcceptRefusals as accepting
 use Rattle.spec_exchange.specs.SendingRefusals as sending
-use Rattle.spec_exchange.specs.Outside.{Cause, Own, Outside, Journal, Keeper, Reading, Read, ReadFails, BadRecord, Putting, Kept, Lost, KeptUntold, Outcome, behind_reading, or_refusal}
-use Rattle.spec_exchange.specs.Outside as outside
+use Rattle.spec_exchange.specs.Outside.{Cause, Own, Outside, Journal, Keeper, Putting, Kept, Lost, KeptUntold}
 use Rattle.spec_exchange.specs.FirstFailed.{Delivery}
 use Rattle.spec_exchange.specs.Calls.{Sealed, delivered_record, sent_record, sends, protected}
 use Rattle.spec_exchange.specs.Screens.{Passes}
 use Rattle.spec_exchange.specs.Accepting.{first_failed}
 use Rattle.spec_exchange.specs.AcceptCalls.{accepted}
+use Rattle.spec_handshake.specs.Documents.{Document}
+use Rattle.spec_handshake.specs.Refusals as handshake
+use Rattle.spec_handshake.specs.Starts.{Start}
 use Rattle.spec_script.specs.Refusals.{Refusal, OfOutside}
 use Rattle.spec_script.specs.Events.{line_event}
 use Rattle.spec_script.specs.Choices.{Choices, of_accepting}
-use Rattle.spec_script.specs.Steps.{State, OnWire, Sends, Forwards, Refuses, Step, after, refuses, puts, sends_sealed, delivers, next_number, wire_at, line_step}
+use Rattle.spec_script.specs.Steps.{State, OnWire, Sends, Forwards, Refuses, Step, after, refuses, puts, sends_sealed, delivers, next_number, wire_at, line_step, Answer, shakes}
 use Rattle.spec_script.specs.Output.{is_keeper_refusal}
+use Rattle.spec_script.proofs.HandLemmas.{is_keeper_cause, clean_puts, clean_chain, clean_read, IsTold}
 use Rattle.spec_script.proofs.StepLemmas.{line_covered}
 
 -- ---- refusals
@@ -30,7 +33,7 @@ refusal_keeps : (s : State) (d : Refusal) → Keeps s (refuses s d)
 refusal_keeps s d = record { sites = λ e h. refl; sent = λ e h. refl; put = λ e h k. refl }
 
 -- a refusal that is the keeper's and isn't
-other_than_keeper : {P : Type 0} (e : Refusal) → OfOutside Keeper ≡ e → is_keeper_refusal e ≡ false → P
+pub other_than_keeper : {P : Type 0} (e : Refusal) → OfOutside Keeper ≡ e → is_keeper_refusal e ≡ false → P
 other_than_keeper e same k = let told : true ≡ false = ap is_keeper_refusal same ∙ k in cc
 
 put_keeps : (s : State) (p : Putting) (name : List ℕ) (r : Record) → Keeps s (puts s p name r)
@@ -54,6 +57,13 @@ delivery_keeps s t (Err (Own d)) p c = record { sites = λ e h. refl; sent = λ 
 delivery_keeps s t (Err (Outside (Journal n))) p c = record { sites = λ e h. refl; sent = λ e h. refl; put = λ e h k. c (Outside (Journal n)) refl refl }
 delivery_keeps s t (Err (Outside Keeper)) p c = record { sites = λ e h. refl; sent = λ e h. refl; put = λ e h k. let same : OfOutside Keeper ≡ e = cc in other_than_keeper e same k }
 
+shaken_keeps : {T : Type 0} (s : State) (told : T → Answer) (made : T → Option Document) (starts : List Start) (r : Result T (Cause handshake.Refusal)) (p : Option Record)
+    → ((x : T) → IsTold s (told x) (made x)) → PutsNone r p → Keeps s (shakes s told made starts (record { result = r; put = p }))
+shaken_keeps s told made starts (Ok x) p is c = record { sites = λ e h. refl; sent = λ e h. absurd ((is x).refused e h); put = λ e h k. absurd ((is x).refused e h) }
+shaken_keeps s told made starts (Err (Own d)) p is c = record { sites = λ e h. refl; sent = λ e h. refl; put = λ e h k. c (Own d) refl refl }
+shaken_keeps s told made starts (Err (Outside (Journal n))) p is c = record { sites = λ e h. refl; sent = λ e h. refl; put = λ e h k. c (Outside (Journal n)) refl refl }
+shaken_keeps s told made starts (Err (Outside Keeper)) p is c = record { sites = λ e h. refl; sent = λ e h. refl; put = λ e h k. let same : OfOutside Keeper ≡ e = cc in other_than_keeper e same k }
+
 pub line_keeps : (passes : Passes) (s : State) (f : Choices) (line : List ℕ) → Keeps s (line_step passes s f line)
 line_keeps passes s f line = line_covered (λ r. Keeps s r) passes s f (record {
   refused = refusal_keeps s;
@@ -65,10 +75,14 @@ line_keeps passes s f line = line_covered (λ r. Keeps s r) passes s f (record {
   reported = λ r. record { sites = λ e h. refl; sent = λ e h. refl; put = λ e h k. refl };
   sealed = λ n i o m. sealed_keeps s (sends f.keeper s.records n i o m).result (sends f.keeper s.records n i o m).put (clean_read f.keeper.reading _ (clean_chain (protected s.records n i o m) _ λ y. clean_puts f.keeper.putting (sent_record y) y)).is;
   came = λ n t. delivery_keeps s t (accepted passes (of_accepting f) s.records n t).result (accepted passes (of_accepting f) s.records n t).put (clean_read f.keeper.reading _ (clean_chain (first_failed passes f.verifier s.records n t) _ λ y. clean_puts f.keeper.putting (delivered_record y) y)).is;
+  shaken = λ told made starts o is call. shaken_keeps s told made starts o.result o.put is call.clean.is;
 }) (line_event line)
 
-pub unchanged : (s : State) (r : Step) → r.sites ≡ s.sites → r.sent ≡ None → r.put ≡ None → after s r ≡ s
-unchanged s r a b c = rw (a, b, c) refl
+pub unchanged : (s : State) (r : Step) → r.sites ≡ s.sites → r.sent ≡ None → r.put ≡ None → r.starts ≡ s.starts → after s r ≡ s
+unchanged s r a b c d = rw (a, b, c, d) refl
+
+pub unput : (s : State) (r : Step) → r.put ≡ None → (after s r).records ≡ s.records
+unput s r e = rw e refl
 
 pub unsent : (s : State) (r : Step) → r.sent ≡ None → (after s r).wire ≡ s.wire
 unsent s r e = rw e refl
@@ -100,6 +114,11 @@ delivery_wires : (s : State) (t : Tree) (r : Result Delivery (Cause accepting.Re
 delivery_wires s t (Ok y) p = record { sealed = λ x k e. cc; injected = λ k e. cc; forwarded = λ t k e. cc }
 delivery_wires s t (Err d) p = record { sealed = λ x k e. cc; injected = λ k e. cc; forwarded = λ t k e. cc }
 
+shaken_wires : {T : Type 0} (s : State) (told : T → Answer) (made : T → Option Document) (starts : List Start) (r : Result T (Cause handshake.Refusal)) (p : Option Record)
+    → ((x : T) → IsTold s (told x) (made x)) → Wires s (shakes s told made starts (record { result = r; put = p }))
+shaken_wires s told made starts (Ok x) p is = record { sealed = λ y k e. absurd ((is x).sealed y k e); injected = λ k e. absurd ((is x).injected k e); forwarded = (is x).forwarded }
+shaken_wires s told made starts (Err d) p is = record { sealed = λ x k e. cc; injected = λ k e. cc; forwarded = λ t k e. cc }
+
 pub line_wires : (passes : Passes) (s : State) (f : Choices) (line : List ℕ) → Wires s (line_step passes s f line)
 line_wires passes s f line = line_covered (λ r. Wires s r) passes s f (record {
   refused = λ d. record { sealed = λ x k e. cc; injected = λ k e. cc; forwarded = λ t k e. cc };
@@ -111,6 +130,7 @@ line_wires passes s f line = line_covered (λ r. Wires s r) passes s f (record {
   reported = λ r. record { sealed = λ x k e. cc; injected = λ k e. cc; forwarded = λ t k e. cc };
   sealed = λ n i o m. sealed_wires s (sends f.keeper s.records n i o m).result (sends f.keeper s.records n i o m).put;
   came = λ n t. delivery_wires s t (accepted passes (of_accepting f) s.records n t).result (accepted passes (of_accepting f) s.records n t).put;
+  shaken = λ told made starts o is call. shaken_wires s told made starts o.result o.put is;
 }) (line_event line)
 
 pub on_wire : (s : State) (r : Step) (t : Tree) → r.sent ≡ Some t → (after s r).wire ≡ s.wire ++ t ∷ []

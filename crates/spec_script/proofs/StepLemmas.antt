@@ -16,6 +16,7 @@ use Rattle.spec_script.specs.Refusals.{Refusal, SignerFailed}
 use Rattle.spec_script.specs.Events.{Event, AddNode, AddContext, AddKeys, Send, Pass, Inject, Alter, Deliver, Restart, Reported, StartWith, AnswerTo, FinishBy, Terminate, EndBy}
 use Rattle.spec_script.specs.Choices.{Signing, Signs, SignerFails, Choices, of_accepting}
 use Rattle.spec_script.specs.Steps.{State, Answer, Step, refuses, or_refuses, restarts, injects, forwards, reports, adds_node, puts, sends_sealed, delivers, passes_on, opens, keys_up, shakes, step, step_with}
+use Rattle.spec_script.specs.Offers.{offer_of}
 use Rattle.spec_script.proofs.HandLemmas.{IsTold, IsCall, forwards_told, replied_told, finished_told, start_call, answer_call, finish_call, terminate_call, ended_call}
 
 pub through : {A : Type 0} (P : Step → Type 0) (s : State) (r : Result A Refusal) (k : A → Result Step Refusal)
@@ -60,8 +61,8 @@ covered P passes s f c (Alter number ops) = through P s _ _ c.refused λ t. thro
 covered P passes s f c (Deliver node number) = through P s _ _ c.refused λ plmn. through P s _ _ c.refused λ t. c.came node t
 covered P passes s f c (Restart node) = through P s _ _ c.refused λ plmn. c.restarted node
 covered P passes s f c (Reported node t) = through P s _ _ c.refused λ plmn. through P s _ _ c.refused λ r. c.reported r
-covered P passes s f c (StartWith node peer x) = through P s _ _ c.refused λ plmn. through P s _ _ c.refused λ room. through P s _ _ c.refused λ policy. c.shaken _ _ _ _ (forwards_told s) (start_call s f.keeper node peer _)
-covered P passes s f c (AnswerTo node number x) = through P s _ _ c.refused λ plmn. through P s _ _ c.refused λ t. through P s _ _ c.refused λ room. through P s _ _ c.refused λ policy. c.shaken _ _ _ _ (replied_told s) (answer_call s f.keeper node plmn _ t)
+covered P passes s f c (StartWith node peer x) = through P s _ _ c.refused λ plmn. through P s _ _ c.refused λ room. through P s _ _ c.refused λ policy. c.shaken _ _ _ _ (forwards_told s) (start_call s f.keeper node peer (offer_of x policy))
+covered P passes s f c (AnswerTo node number x) = through P s _ _ c.refused λ plmn. through P s _ _ c.refused λ t. through P s _ _ c.refused λ room. through P s _ _ c.refused λ policy. c.shaken _ _ _ _ (replied_told s) (answer_call s f.keeper node plmn (offer_of x policy) t)
 covered P passes s f c (FinishBy node number) = through P s _ _ c.refused λ plmn. through P s _ _ c.refused λ t. through P s _ _ c.refused λ room. c.shaken _ _ _ _ (finished_told s) (finish_call s f.keeper node plmn t)
 covered P passes s f c (Terminate node id) = through P s _ _ c.refused λ plmn. through P s _ _ c.refused λ room. c.shaken _ _ _ _ (λ x. forwards_told s x.document) (terminate_call s f.keeper node id)
 covered P passes s f c (EndBy node number) = through P s _ _ c.refused λ plmn. through P s _ _ c.refused λ t. through P s _ _ c.refused λ room. c.shaken _ _ _ _ (λ x. forwards_told s x.document) (ended_call s f.keeper node t)

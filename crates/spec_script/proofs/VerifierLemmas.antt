@@ -1,5 +1,5 @@
 -- A verifier that says what is meant, and fails at one entry at most: where its failure isn't answered, what is answered is that of the verifier that never fails.
-use Rattle.std.proofs.Common.{◌≡◌, ℕ, suc, Bool, true, false, List, [], ◌∷◌, Option, Some, None, Result, Ok, Err, refl, ap, ◌∙◌}
+use Rattle.std.proofs.Common.{◌≡◌, ℕ, suc, Bool, true, false, List, [], ◌∷◌, Option, None, Result, Ok, Err, refl, ap, ◌∙◌}
 use Rattle.std.specs.Prelude.{if◌then◌else◌}
 use Rattle.spec_documents.specs.Tree.{Tree}
 use Rattle.spec_messages.specs.Message.{Message}
@@ -9,7 +9,7 @@ use Rattle.spec_records.specs.Records.{Record}
 use Rattle.spec_exchange.specs.Chain.{◌>>=◌, or_refused}
 use Rattle.spec_exchange.specs.EntryRefusals.{EntryRefusal}
 use Rattle.spec_exchange.specs.AcceptRefusals.{Refusal, OfEntry}
-use Rattle.spec_exchange.specs.EntryChecks.{Claim, Verdict, Fails, Verifying, verdict_of, is_entry, by_meaning, is_signed, Terms, Progress, claim_of, bound_entry, entry_applied, entries_from, entries_applied}
+use Rattle.spec_exchange.specs.EntryChecks.{Claim, Verdict, Fails, verdict_of, is_entry, by_meaning, is_signed, Terms, Progress, claim_of, bound_entry, entry_applied, entries_from, entries_applied}
 use Rattle.spec_exchange.specs.Screens.{Passes}
 use Rattle.spec_exchange.specs.FirstFailed.{Delivery, KeyedContext, Rebuilt, has_room, delivery_at}
 use Rattle.spec_exchange.specs.Asked.{MappedBy, mapping_by}

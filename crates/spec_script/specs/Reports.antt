@@ -1,5 +1,5 @@
 -- The report that goes with a refused delivery, where there is one.
-use Rattle.std.specs.Prelude.{ℕ, zero, suc, List, Option, Some, None, option_map, option_and_then, Result, Ok, Err, slice_get}
+use Rattle.std.specs.Prelude.{ℕ, zero, suc, List, Option, None, option_map, option_and_then, Result, Ok, Err, slice_get}
 use Rattle.spec_documents.specs.Tree.{Tree}
 use Rattle.spec_messages.specs.Policy.{result_ok}
 use Rattle.spec_sealing.specs.Entries.{SignedEntry, entry_in}
