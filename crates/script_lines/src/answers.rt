@@ -21,7 +21,12 @@ use n32_values::{
 };
 use std::alloc::Global;
 
-pub(crate) fn put_number(alloc: Global, map: &mut NodeMap, name: &str, number: u64) -> Result<(), NoMemory>
+pub(crate) fn put_number(
+    alloc: Global,
+    map: &mut NodeMap,
+    name: &str,
+    number: u64,
+) -> Result<(), NoMemory>
     ensures { OnOk result (map.new ≡ put_member name.now (number_tree number) map.old) }
 {
     put(alloc, map, name, Node::Whole(Whole::from_u64(number)))
@@ -104,7 +109,12 @@ pub fn delivered_text(
     doc_text(alloc, &Node::Members(map))
 }
 
-pub(crate) fn put_id(alloc: Global, map: &mut NodeMap, name: &str, id: Hex64) -> Result<(), NoMemory>
+pub(crate) fn put_id(
+    alloc: Global,
+    map: &mut NodeMap,
+    name: &str,
+    id: Hex64,
+) -> Result<(), NoMemory>
     ensures { OnOk result (map.new ≡ put_member name.now (words (id_text id.value)) map.old) }
 {
     put(alloc, map, name, Node::Words(hex64_text(alloc, id)?))

@@ -98,10 +98,7 @@ fn text_of(alloc: Global, document: &Doc) -> Result<Text, NoMemory>
     ensures { IfOk result (λ t. t ≡ compact_text document.now) }
 {
     let bytes = doc_text(alloc, document.node())?;
-    Ok(Text::from_string(String::from_utf8_lossy(
-        alloc,
-        bytes.as_slice(),
-    )?))
+    Ok(Text::from_string(String::from_utf8_lossy(alloc, bytes.as_slice())?))
 }
 
 // One side of a difference, as it is printed.
@@ -126,7 +123,5 @@ fn difference_text(
     let other = side_of(alloc, other)?;
     let own = own.as_str();
     let other = other.as_str();
-    Ok(Text::from_string(
-        format!(in alloc; "{number} {own} {other}")?,
-    ))
+    Ok(Text::from_string(format!(in alloc; "{number} {own} {other}")?))
 }
