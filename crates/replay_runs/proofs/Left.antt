@@ -16,12 +16,12 @@ use Rattle.spec_script.specs.Output.{Answered, Numbered, Output, answers_text, b
 use Rattle.context_store.specs.Stores.{AreRecords, Holds}
 use Rattle.spec_script.specs.Choices.{Meanings}
 use Rattle.replay_world.specs.Outsiders.{Told}
-use Rattle.replay_runs.specs.Outsiders.{Counts, counts_of, meanings_of}
+use Rattle.replay_runs.specs.Outsiders.{Counts, counts, counts_of, meanings_of}
 use Rattle.replay_world.specs.declared.world.World.{World}
 use Rattle.replay_world.specs.Worlds.{TellsRecords, state_of}
 use Rattle.replay_runs.specs.Statuses.{status_of}
 use Rattle.replay_runs.specs.Unfailing.{plain_state, plain_output}
-use Rattle.replay_runs.specs.Replays.{OutsideAnswers, tells_keeper, tells_signer, RepliesToAll, RepliesToFirst, RepliesInPart, Leaves, OverRecords, IsComplete}
+use Rattle.replay_runs.specs.Replays.{OutsideAnswers, tells_keeper, tells_signer, tells_verifier, RepliesToAll, RepliesToFirst, RepliesInPart, Leaves, OverRecords, IsComplete}
 use Rattle.replay_runs.specs.Lines.{GivesUpLine, IsOfLines}
 use Rattle.replay_runs.specs.declared.status.Status.{Status}
 use Rattle.replay_runs.proofs.Plain.{is_plain, none_rose}
@@ -39,7 +39,7 @@ abbrev Begins : World → List Record → Type 0
 Begins w records = state_of w records ≡ begin records
 
 first_of : (means : Meanings) {M : Type 0} (outside : M → Told) (world : M → World) (count : ℕ) (script : List ℕ) (records : List Record) (old new : M) (before after : Option (List ℕ))
-    → TellsRecords (outside old).held records → length records ≤ record_limit → meanings_of (outside old).signer ≡ Some means → Begins (world old) records
+    → TellsRecords (outside old).held records → length records ≤ record_limit → meanings_of (outside old).others ≡ Some means → Begins (world old) records
     → Answers (gives_of outside world) old (take count (lines_of script)) new before after → RepliesToFirst means count script records (outside new).held (counts_of (outside old)) (counts_of (outside new)) before after
 first_of means outside world count script records old new before after t few is begins a =
     let w = went means outside world old records 1 (take count (lines_of script)) a.out new t few is a.answered in
@@ -58,13 +58,13 @@ abbrev output_of : (means : Meanings) (script : List ℕ) (records : List Record
 output_of means script records answers last answered = record { answers = answers; answered = answered; text = refl }
 
 one_output : (means : Meanings) (script : List ℕ) (records : List Record) (answers : List Numbered) (last : State) (faults faults' : Counts) → Answered means (begin records) 1 (lines_of script) answers last → OutsideAnswers answers faults faults'
-    → (Rose faults.keeper faults'.keeper → ⊥) → (Rose faults.signer faults'.signer → ⊥) → (answers_text answers ≡ plain_output means records script) × (last ≡ plain_state means (begin records) (lines_of script))
-one_output means script records answers last faults faults' answered k none unsigned =
-    let p = is_plain means (begin records) 1 (lines_of script) answers last answered (none_rose (count_by tells_keeper answers) faults.keeper faults'.keeper k.keeper none) (none_rose (count_by tells_signer answers) faults.signer faults'.signer k.signer unsigned) k.sound in
+    → (Rose faults.keeper faults'.keeper → ⊥) → (Rose faults.signer faults'.signer → ⊥) → (Rose faults.verifier faults'.verifier → ⊥) → (answers_text answers ≡ plain_output means records script) × (last ≡ plain_state means (begin records) (lines_of script))
+one_output means script records answers last faults faults' answered k none unsigned unverified =
+    let p = is_plain means (begin records) 1 (lines_of script) answers last answered (none_rose (count_by tells_keeper answers) faults.keeper faults'.keeper k.keeper none) (none_rose (count_by tells_signer answers) faults.signer faults'.signer k.signer unsigned) (none_rose (count_by tells_verifier answers) faults.verifier faults'.verifier k.verifier unverified) k.sound in
     (ap answers_text p.answers_are, p.last_is)
 
 all_of : (means : Meanings) {M : Type 0} (outside : M → Told) (world : M → World) (script : List ℕ) (records : List Record) (old new : M) (before after : Option (List ℕ))
-    → TellsRecords (outside old).held records → length records ≤ record_limit → meanings_of (outside old).signer ≡ Some means → Begins (world old) records
+    → TellsRecords (outside old).held records → length records ≤ record_limit → meanings_of (outside old).others ≡ Some means → Begins (world old) records
     → Answers (gives_of outside world) old (lines_of script) new before after → RepliesToAll means script records (outside new).held (counts_of (outside old)) (counts_of (outside new)) before after
 all_of means outside world script records old new before after t few is begins a =
     let w = went means outside world old records 1 (lines_of script) a.out new t few is a.answered in
@@ -81,7 +81,7 @@ all_of means outside world script records old new before after t few is begins a
     }
 
 in_part_of : (means : Meanings) {M : Type 0} (outside : M → Told) (world : M → World) (gives_up : GivesUp M) (script : List ℕ) (left : Option (List ℕ)) (records : List Record) (old new : M) (before after : Option (List ℕ)) (e : Ending)
-    → TellsRecords (outside old).held records → length records ≤ record_limit → meanings_of (outside old).signer ≡ Some means → Begins (world old) records → Kept outside world gives_up
+    → TellsRecords (outside old).held records → length records ≤ record_limit → meanings_of (outside old).others ≡ Some means → Begins (world old) records → Kept outside world gives_up
     → AnswersInPart (gives_of outside world) gives_up old script left new before after e → RepliesInPart means script left records (outside new).held (counts_of (outside old)) (counts_of (outside new)) before after (status_of e)
 in_part_of means outside world gives_up script left records old new before after e t few is begins kept a =
     let w = went means outside world old records 1 (take a.number (lines_of script)) a.out a.mid t few is a.answered in
@@ -107,7 +107,7 @@ in_part_of means outside world gives_up script left records old new before after
 -- ---- by the ending
 
 leaves_of : (means : Meanings) {M : Type 0} (outside : M → Told) (world : M → World) (gives_up : GivesUp M) (script : List ℕ) (left : Option (List ℕ)) (records : List Record) (old new : M) (before after : Option (List ℕ)) (e : Ending)
-    → TellsRecords (outside old).held records → length records ≤ record_limit → meanings_of (outside old).signer ≡ Some means → Begins (world old) records → Kept outside world gives_up
+    → TellsRecords (outside old).held records → length records ≤ record_limit → meanings_of (outside old).others ≡ Some means → Begins (world old) records → Kept outside world gives_up
     → Ends (gives_of outside world) gives_up script left old new before after e → Leaves means script left records (outside new).held (counts_of (outside old)) (counts_of (outside new)) before after (status_of e)
 leaves_of means outside world gives_up script left records old new before after ending.Done t few is begins kept e =
     (e.0, e.1, all_of means outside world script records old new before after t few is begins e.2)
@@ -149,7 +149,7 @@ over_records None P h = tt
 over_records (Some texts) P h = λ records are. h records (record { texts = texts; told = refl; are = are })
 
 pub leaves_told : (means : Meanings) {M : Type 0} (outside : M → Told) (world : M → World) (gives_up : GivesUp M) (first left : Option (List ℕ)) (old new : M) (stored : List Record) (before after : Option (List ℕ)) (e : Ending)
-    → meanings_of (outside old).signer ≡ Some means → Holds (outside old).held stored → length stored ≤ record_limit → ((records : List Record) → Begins (world old) records) → Kept outside world gives_up
+    → meanings_of (outside old).others ≡ Some means → Holds (outside old).held stored → length stored ≤ record_limit → ((records : List Record) → Begins (world old) records) → Kept outside world gives_up
     → IfSome first (λ script. Ends (gives_of outside world) gives_up script left old new before after e)
     → IfSome first (λ script. OverRecords (outside old).held (λ records. Leaves means script left records (outside new).held (counts_of (outside old)) (counts_of (outside new)) before after (status_of e)))
 leaves_told means outside world gives_up None left old new stored before after e is holds few begins kept h = tt
@@ -157,9 +157,12 @@ leaves_told means outside world gives_up (Some script) left old new stored befor
     over_records (outside old).held (λ records. Leaves means script left records (outside new).held (counts_of (outside old)) (counts_of (outside new)) before after (status_of e)) λ records t.
     leaves_of means outside world gives_up script left records old new before after e t (few_told (outside old).held stored records holds few t) is (begins records) kept h
 
+pub same_counts : {a b c d e f : ℕ} → a ≡ d → b ≡ e → c ≡ f → counts a b c ≡ counts d e f
+same_counts p q r = rw (p, q, r) refl
+
 -- the same, where what the machine left is named otherwise
 pub leaves_lent : (means : Meanings) {M : Type 0} (outside : M → Told) (world : M → World) (gives_up : GivesUp M) (first left : Option (List ℕ)) (old new : M) (stored : List Record) (before after : Option (List ℕ)) (e : Ending) (status : Status) (held' : Option (List (List ℕ))) (faults' : Counts)
-    → meanings_of (outside old).signer ≡ Some means → Holds (outside old).held stored → length stored ≤ record_limit → ((records : List Record) → Begins (world old) records) → Kept outside world gives_up
+    → meanings_of (outside old).others ≡ Some means → Holds (outside old).held stored → length stored ≤ record_limit → ((records : List Record) → Begins (world old) records) → Kept outside world gives_up
     → held' ≡ (outside new).held → faults' ≡ counts_of (outside new) → status ≡ status_of e
     → IfSome first (λ script. Ends (gives_of outside world) gives_up script left old new before after e)
     → IfSome first (λ script. OverRecords (outside old).held (λ records. Leaves means script left records held' (counts_of (outside old)) faults' before after status))

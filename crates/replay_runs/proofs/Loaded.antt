@@ -32,7 +32,7 @@ use Rattle.replay_runs.proofs.Plain.{answered_then, into_spoken, text-append, pl
 -- ---- counted from before the load
 
 earlier_causes : (answers : List Numbered) (first faults faults' : Counts) → Later first faults → OutsideAnswers answers faults faults' → OutsideAnswers answers first faults'
-earlier_causes answers first faults faults' le k = record { keeper = omega (arith, k.keeper, le.keeper); signer = omega (arith, k.signer, le.signer); sound = k.sound }
+earlier_causes answers first faults faults' le k = record { keeper = omega (arith, k.keeper, le.keeper); signer = omega (arith, k.signer, le.signer); verifier = omega (arith, k.verifier, le.verifier); sound = k.sound }
 
 earlier_all : (means : Meanings) (script : List ℕ) (records : List Record) (held : Option (List (List ℕ))) (first faults faults' : Counts) (before after : Option (List ℕ)) → Later first faults → RepliesToAll means script records held faults faults' before after → RepliesToAll means script records held first faults' before after
 earlier_all means script records held first faults faults' before after le a = record {
@@ -42,7 +42,7 @@ earlier_all means script records held first faults faults' before after le a = r
   written = a.written;
   held_is = a.held_is;
   causes = earlier_causes a.output.answers first faults faults' le a.causes;
-  one = λ none unsigned. a.one (λ rose. none (omega (arith, rose, le.keeper))) (λ rose. unsigned (omega (arith, rose, le.signer)));
+  one = λ none unsigned unverified. a.one (λ rose. none (omega (arith, rose, le.keeper))) (λ rose. unsigned (omega (arith, rose, le.signer))) (λ rose. unverified (omega (arith, rose, le.verifier)));
 }
 
 earlier_first : (means : Meanings) (count : ℕ) (script : List ℕ) (records : List Record) (held : Option (List (List ℕ))) (first faults faults' : Counts) (before after : Option (List ℕ)) → Later first faults → RepliesToFirst means count script records held faults faults' before after → RepliesToFirst means count script records held first faults' before after
@@ -143,7 +143,7 @@ nothing_replied means script records held faults faults' written t le = record {
   mid = begin records;
   answered = (refl, refl);
   front = [];
-  stops = inr (record { memory = refl; none = refl; held_is = inl t; causes = record { keeper = omega (arith, le.keeper); signer = omega (arith, le.signer); sound = refl } });
+  stops = inr (record { memory = refl; none = refl; held_is = inl t; causes = record { keeper = omega (arith, le.keeper); signer = omega (arith, le.signer); verifier = omega (arith, le.verifier); sound = refl } });
   written = Appends-nil written;
 }
 
@@ -154,7 +154,7 @@ memory_leaves means (Some script) held held' faults faults' written same le =
     over_any held (λ records. Leaves means script (Some script) records held' faults faults' written written status.NoMemory)
     (λ records t. nothing_replied means script records held' faults faults' written (subst (λ (o : Option (List (List ℕ))). TellsRecords o records) (sym same) t) le)
 
--- ---- where the signer tells
+-- ---- where signer and verifier tell
 
 pub means_any : (o : Option Meanings) (P : Meanings → Type 0) → ((means : Meanings) → o ≡ Some means → P means) → IfSome o P
 means_any None P f = tt

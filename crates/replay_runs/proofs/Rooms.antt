@@ -6,9 +6,13 @@ use Rattle.spec_messages.specs.Message.{Message}
 use Rattle.spec_records.specs.Records.{KeySet, Context, Record, record_limit}
 use Rattle.spec_exchange.specs.Chain.{◌>>=◌, unless}
 use Rattle.spec_exchange.specs.Outside.{Choice, Putting, Kept, Lost, KeptUntold, with_put}
-use Rattle.spec_exchange.specs.FirstFailed.{first_failed}
-use Rattle.spec_exchange.specs.Calls.{Outgoing, accepted, sends, protected, delivered_record, sent_record}
-use Rattle.spec_exchange.proofs.ChainLemmas.{puts-some, first_failed-ok, protected-ok}
+use Rattle.spec_exchange.specs.Screens.{Passes}
+use Rattle.spec_exchange.specs.AcceptCalls as accepting
+use Rattle.spec_exchange.specs.AcceptCalls.{accepted}
+use Rattle.spec_exchange.specs.Accepting.{first_failed}
+use Rattle.spec_exchange.specs.Calls.{Outgoing, sends, protected, delivered_record, sent_record}
+use Rattle.spec_exchange.proofs.ChainLemmas.{puts-some, protected-ok}
+use Rattle.spec_exchange.proofs.AcceptLemmas.{accepted-passed}
 use Rattle.spec_script.specs.Refusals.{Refusal}
 use Rattle.spec_script.specs.Events.{Event, AddNode, AddContext, AddKeys, Send, Inject, Deliver, Restart, Pass, Alter, Reported, line_event}
 use Rattle.spec_script.specs.Choices.{Signing, Signs, SignerFails, Choices}
@@ -61,30 +65,30 @@ sealed_fits s f node id o m = put_fits s.records (sends f s.records node id o m)
     let p = puts-some f.reading (protected s.records node id o m) f.putting sent_record r e in
     (protected-ok s.records node id o m p.value p.is).room
 
-came_fits : (s : State) (f : Choice) (node : List ℕ) (t : Tree) → Fits s (delivers s t (accepted f s.records node t))
-came_fits s f node t = put_fits s.records (accepted f s.records node t).put λ r e.
-    let p = puts-some f.reading (first_failed s.records node t) f.putting delivered_record r e in
-    (first_failed-ok s.records node t p.value p.is).room
+came_fits : (passes : Passes) (s : State) (f : accepting.Choices) (node : List ℕ) (t : Tree) → Fits s (delivers s t (accepted passes f s.records node t))
+came_fits passes s f node t = put_fits s.records (accepted passes f s.records node t).put λ r e.
+    let p = puts-some f.keeper.reading (first_failed passes f.verifier s.records node t) f.keeper.putting delivered_record r e in
+    (accepted-passed passes f.verifier s.records node t p.value p.is).new.room
 
 passed_fits : (s : State) (signing : Signing) (ipx : List ℕ) (operations t : Tree) → Fits s (or_refuses s (passes_on s signing ipx operations t))
 passed_fits s (Signs g) ipx operations t = through (Fits s) s _ _ (refused_fits s) λ d few. few
 passed_fits s SignerFails ipx operations t = through (Fits s) s _ _ (refused_fits s) λ parts few. few
 
-event_fits : (s : State) (f : Choices) (e : Event) → Fits s (step s f e)
-event_fits s f (AddNode node plmn) = through (Fits s) s _ _ (refused_fits s) λ new few. few
-event_fits s f (AddContext x) = through (Fits s) s _ _ (refused_fits s) λ plmn. through (Fits s) s _ _ (refused_fits s) λ policy. opened_fits s f.keeper _
-event_fits s f (AddKeys node id set) = through (Fits s) s _ _ (refused_fits s) λ plmn. keyed_fits s f.keeper node id set
-event_fits s f (Send node id t answers) = through (Fits s) s _ _ (refused_fits s) λ plmn. through (Fits s) s _ _ (refused_fits s) λ room. through (Fits s) s _ _ (refused_fits s) λ m. sealed_fits s f.keeper node id m.0 m.1
-event_fits s f (Pass ipx number operations) = through (Fits s) s _ _ (refused_fits s) λ t. through (Fits s) s _ _ (refused_fits s) λ room. passed_fits s f.signer ipx operations t
-event_fits s f (Inject t) = through (Fits s) s _ _ (refused_fits s) λ room few. few
-event_fits s f (Alter number ops) = through (Fits s) s _ _ (refused_fits s) λ t. through (Fits s) s _ _ (refused_fits s) λ room. through (Fits s) s _ _ (refused_fits s) λ u few. few
-event_fits s f (Deliver node number) = through (Fits s) s _ _ (refused_fits s) λ plmn. through (Fits s) s _ _ (refused_fits s) λ t. came_fits s f.keeper node t
-event_fits s f (Restart node) = through (Fits s) s _ _ (refused_fits s) λ plmn few. few
-event_fits s f (Reported node t) = through (Fits s) s _ _ (refused_fits s) λ plmn. through (Fits s) s _ _ (refused_fits s) λ r few. few
+event_fits : (passes : Passes) (s : State) (f : Choices) (e : Event) → Fits s (step passes s f e)
+event_fits passes s f (AddNode node plmn) = through (Fits s) s _ _ (refused_fits s) λ new few. few
+event_fits passes s f (AddContext x) = through (Fits s) s _ _ (refused_fits s) λ plmn. through (Fits s) s _ _ (refused_fits s) λ policy. opened_fits s f.keeper _
+event_fits passes s f (AddKeys node id set) = through (Fits s) s _ _ (refused_fits s) λ plmn. keyed_fits s f.keeper node id set
+event_fits passes s f (Send node id t answers) = through (Fits s) s _ _ (refused_fits s) λ plmn. through (Fits s) s _ _ (refused_fits s) λ room. through (Fits s) s _ _ (refused_fits s) λ m. sealed_fits s f.keeper node id m.0 m.1
+event_fits passes s f (Pass ipx number operations) = through (Fits s) s _ _ (refused_fits s) λ t. through (Fits s) s _ _ (refused_fits s) λ room. passed_fits s f.signer ipx operations t
+event_fits passes s f (Inject t) = through (Fits s) s _ _ (refused_fits s) λ room few. few
+event_fits passes s f (Alter number ops) = through (Fits s) s _ _ (refused_fits s) λ t. through (Fits s) s _ _ (refused_fits s) λ room. through (Fits s) s _ _ (refused_fits s) λ u few. few
+event_fits passes s f (Deliver node number) = through (Fits s) s _ _ (refused_fits s) λ plmn. through (Fits s) s _ _ (refused_fits s) λ t. came_fits passes s (record { keeper = f.keeper; verifier = f.verifier }) node t
+event_fits passes s f (Restart node) = through (Fits s) s _ _ (refused_fits s) λ plmn few. few
+event_fits passes s f (Reported node t) = through (Fits s) s _ _ (refused_fits s) λ plmn. through (Fits s) s _ _ (refused_fits s) λ r few. few
 
-read_fits : (s : State) (f : Choices) (r : Result Event Refusal) → Fits s (step_with s f r)
-read_fits s f (Ok e) = event_fits s f e
-read_fits s f (Err e) = refused_fits s e
+read_fits : (passes : Passes) (s : State) (f : Choices) (r : Result Event Refusal) → Fits s (step_with passes s f r)
+read_fits passes s f (Ok e) = event_fits passes s f e
+read_fits passes s f (Err e) = refused_fits s e
 
-pub line_fits : (s : State) (f : Choices) (line : List ℕ) → length s.records ≤ record_limit → length (with_put s.records (line_step s f line).put) ≤ record_limit
-line_fits s f line = read_fits s f (line_event line)
+pub line_fits : (passes : Passes) (s : State) (f : Choices) (line : List ℕ) → length s.records ≤ record_limit → length (with_put s.records (line_step passes s f line).put) ≤ record_limit
+line_fits passes s f line = read_fits passes s f (line_event line)

@@ -155,7 +155,7 @@ rose_by told before after_ v number m f =
 steps_from : (texts : List (List ℕ)) (before after_ : Told) (old new : World) (records : List Record) (x : Acting) (f : Choice) (number : ℕ) (line text : List ℕ)
     → IsActing before.others after_.others x
     → AreRecords texts records → Leaves texts after_.held before.keeper_faults after_.keeper_faults old new number text (line_step before.others.screen (state_of old records) (by x f) line) → ((k : ℕ) → f.reading ≡ BadRecord k → IsFirstBad texts k)
-    → StepsOver before after_ old new texts records number line text
+    → StepsOver before.others.screen before after_ old new texts records number line text
 steps_from texts before after_ old new records x f number line text meant are h bad =
     let r = line_step before.others.screen (state_of old records) (by x f) line in
     record {
@@ -177,17 +177,17 @@ leaves_from texts now before after_ old new number text rs r h = record { told =
 -- whichever records a step went by, it is one over those that are held
 over_held : (texts : List (List ℕ)) (before after_ : Told) (old new : World) (records : List Record) (x : Acting) (number : ℕ) (line text : List ℕ)
     → IsActing before.others after_.others x → AreRecords texts records
-    → StepBy (line_steps before.others.screen x line) (Some texts) old (Makes (TellsText before.keeper_faults after_.keeper_faults number text) (Some texts) after_.held old.wire new) → StepsOver before after_ old new texts records number line text
+    → StepBy (line_steps before.others.screen x line) (Some texts) old (Makes (TellsText before.keeper_faults after_.keeper_faults number text) (Some texts) after_.held old.wire new) → StepsOver before.others.screen before after_ old new texts records number line text
 over_held texts before after_ old new records x number line text meant are h = by_reading h.choice.reading refl
   where
-    unread : (h.choice.reading ≡ Read → ⊥) → StepsOver before after_ old new texts records number line text
+    unread : (h.choice.reading ≡ Read → ⊥) → StepsOver before.others.screen before after_ old new texts records number line text
     unread not_read =
         let same = line_same (sites_view old.sites) old.wire h.records records before.others.screen (by x h.choice) not_read (line_event line) in
         steps_from texts before after_ old new records x h.choice number line text meant are
         (subst (λ (r : Step). Leaves texts after_.held before.keeper_faults after_.keeper_faults old new number text r) same.is (leaves_from texts after_.held before.keeper_faults after_.keeper_faults old new number text h.records (line_step before.others.screen (state_of old h.records) (by x h.choice) line) h.leaves))
         h.chosen.bad
 
-    by_reading : (reading : Reading) → h.choice.reading ≡ reading → StepsOver before after_ old new texts records number line text
+    by_reading : (reading : Reading) → h.choice.reading ≡ reading → StepsOver before.others.screen before after_ old new texts records number line text
     by_reading Read e =
         let same : h.records ≡ records = are_one texts h.records records (h.chosen.read e) are in
         steps_from texts before after_ old new records x h.choice number line text meant are
@@ -199,7 +199,7 @@ over_held texts before after_ old new records x number line text meant are h = b
 steps_held : (held : Option (List (List ℕ))) (before after_ : Told) (old new : World) (x : Acting) (number : ℕ) (line : List ℕ) (result : Result (List ℕ) NoMemory)
     → IsActing before.others after_.others x
     → LineComes before.others.screen x held after_.held before.keeper_faults after_.keeper_faults old new number line result
-    → IfOk result (λ text. IfSome held (λ texts. (records : List Record) → AreRecords texts records → StepsOver before after_ old new texts records number line text))
+    → IfOk result (λ text. IfSome held (λ texts. (records : List Record) → AreRecords texts records → StepsOver before.others.screen before after_ old new texts records number line text))
 steps_held None before after_ old new x number line (Ok text) meant h = tt
 steps_held None before after_ old new x number line (Err e) meant h = tt
 steps_held (Some texts) before after_ old new x number line (Ok text) meant h = λ records are. over_held texts before after_ old new records x number line text meant are h

@@ -5,6 +5,7 @@ use Rattle.spec_documents.specs.Tree.{Tree, depth}
 use Rattle.n32_outside.specs.Causes.{Rose}
 use Rattle.spec_records.specs.Records.{Record}
 use Rattle.spec_exchange.specs.Outside.{Journal, with_put}
+use Rattle.spec_exchange.specs.Screens.{Passes}
 use Rattle.spec_script.specs.Choices.{Choices}
 use Rattle.spec_script.specs.Refusals.{OfOutside}
 use Rattle.spec_script.specs.Steps as spec
@@ -57,25 +58,25 @@ pub record TellsRecords (held : Option (List (List ℕ))) (records : List Record
   pub told : held ≡ Some texts
   pub are : AreRecords texts records
 
--- the line of this number is answered over these records: by the step of the line behind the screen, under some choices of keeper, signer and verifier
-pub record StepsOver (before after_ : Told) (old new : World) (texts : List (List ℕ)) (records : List Record) (number : ℕ) (line text : List ℕ) : Type 0 where
+-- the line of this number is answered over these records: by the step of the line behind a screen of this rule, under some choices of keeper, signer and verifier
+pub record StepsOver (passes : Passes) (before after_ : Told) (old new : World) (texts : List (List ℕ)) (records : List Record) (number : ℕ) (line text : List ℕ) : Type 0 where
   pub choice : Choices
   -- what is signed and verified is as signer and verifier tell
   pub meant : IsActing before.others after_.others (record { signer = choice.signer; verifier = choice.verifier })
-  pub text_is : text ≡ answer_text number (line_step before.others.screen (state_of old records) choice line).answer
+  pub text_is : text ≡ answer_text number (line_step passes (state_of old records) choice line).answer
   -- the world, over what is held then, is the state after the step
-  pub state_is : state_of new (with_put records (line_step before.others.screen (state_of old records) choice line).put) ≡ after (state_of old records) (line_step before.others.screen (state_of old records) choice line)
-  pub held_is : TellsRecords after_.held (with_put records (line_step before.others.screen (state_of old records) choice line).put)
+  pub state_is : state_of new (with_put records (line_step passes (state_of old records) choice line).put) ≡ after (state_of old records) (line_step passes (state_of old records) choice line)
+  pub held_is : TellsRecords after_.held (with_put records (line_step passes (state_of old records) choice line).put)
   -- a fault of the keeper is told only where its count rose
-  pub failed : has_refusal is_keeper_refusal (line_step before.others.screen (state_of old records) choice line).answer ≡ true → Rose before.keeper_faults after_.keeper_faults
+  pub failed : has_refusal is_keeper_refusal (line_step passes (state_of old records) choice line).answer ≡ true → Rose before.keeper_faults after_.keeper_faults
   -- one of the signer only where that one's rose
-  pub unsigned : has_refusal is_signer_refusal (line_step before.others.screen (state_of old records) choice line).answer ≡ true → Rose before.others.signer.faults after_.others.signer.faults
+  pub unsigned : has_refusal is_signer_refusal (line_step passes (state_of old records) choice line).answer ≡ true → Rose before.others.signer.faults after_.others.signer.faults
   -- and one of the verifier only where that one's rose
-  pub unverified : has_refusal is_verifier_refusal (line_step before.others.screen (state_of old records) choice line).answer ≡ true → Rose before.others.verifier.faults after_.others.verifier.faults
+  pub unverified : has_refusal is_verifier_refusal (line_step passes (state_of old records) choice line).answer ≡ true → Rose before.others.verifier.faults after_.others.verifier.faults
   -- a bad record is told only where it is the first
-  pub journal : (k : ℕ) → (line_step before.others.screen (state_of old records) choice line).answer ≡ Refuses (OfOutside (Journal k)) → IsFirstBad texts k
+  pub journal : (k : ℕ) → (line_step passes (state_of old records) choice line).answer ≡ Refuses (OfOutside (Journal k)) → IsFirstBad texts k
 
 -- where the keeper tells texts that are all records
 abbrev pub Steps : (before after_ : Told) → (old new : World) → (number : ℕ) → (line text : List ℕ) → Type 0
 Steps before after_ old new number line text =
-    IfSome before.held (λ texts. (records : List Record) → AreRecords texts records → StepsOver before after_ old new texts records number line text)
+    IfSome before.held (λ texts. (records : List Record) → AreRecords texts records → StepsOver before.others.screen before after_ old new texts records number line text)

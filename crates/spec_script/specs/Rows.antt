@@ -1,5 +1,5 @@
 -- Events and states of worked examples.
-use Rattle.std.specs.Prelude.{ℕ, zero, suc, List, [], ◌∷◌, ◌++◌, Bool, true, Option, Some, None, codes}
+use Rattle.std.specs.Prelude.{ℕ, zero, suc, List, [], ◌∷◌, ◌++◌, Bool, true, false, Option, Some, None, codes}
 use Rattle.spec_documents.specs.Tree.{Tree, null, words, items, members, object, trees}
 use Rattle.spec_records.specs.Records.{Record, A128Gcm, Opened, Keyed}
 use Rattle.spec_records.specs.RecordRows.{context_with, keys_from}
@@ -85,6 +85,19 @@ report_fields =
     ∷ (codes "n32fErrorType", words (codes "INTEGRITY_CHECK_FAILED"))
     ∷ (codes "n32fMessageId", words (codes "0000000000000000")) ∷ []
 
+-- of an entry that is refused, with nobody's name and with one
+abbrev pub bare_entry_fields : List (List ℕ × Tree)
+bare_entry_fields =
+    (codes "n32fContextId", words (codes "00000000000000b1"))
+    ∷ (codes "n32fErrorType", words (codes "INTEGRITY_CHECK_ON_MODIFICATIONS_FAILED"))
+    ∷ (codes "n32fMessageId", words (codes "0000000000000000")) ∷ []
+
+abbrev pub entry_report_fields : List (List ℕ × Tree)
+entry_report_fields = (
+  codes "failedModificationList",
+  items (trees (of_members ((codes "ipxId", words (codes "ipx-a")) ∷ (codes "n32fErrorType", words (codes "INTEGRITY_CHECK_ON_MODIFICATIONS_FAILED")) ∷ []) ∷ [])),
+) ∷ bare_entry_fields
+
 abbrev pub row_report : Option (List ℕ) → Report
 row_report entry = record { context = 177; message = 0; error = IntegrityCheckFailed; entry = entry }
 
@@ -148,6 +161,10 @@ bad_record = by_keeper (record { reading = BadRecord 2; putting = Kept })
 -- a screen that passes every message
 abbrev pub passes_all : Passes
 passes_all m plmn = true
+
+-- and one that passes none
+abbrev pub passes_none : Passes
+passes_none m plmn = false
 
 abbrev pub row_step : State → Choices → Event → Step
 row_step s f e = step passes_all s f e

@@ -10,6 +10,7 @@ ghost use Rattle.spec_messages.specs.Fault as block;
 ghost use Rattle.spec_messages.specs.Policy.{body_at};
 ghost use Rattle.spec_messages.specs.Limits.{full_wire, long_document, many_records};
 ghost use Rattle.spec_sealing.specs.Jws.{Hs256};
+ghost use Rattle.spec_sealing.specs.Entries.{SignedEntry, entry_in};
 ghost use Rattle.spec_sealing.specs.Received.{Received, received};
 ghost use Rattle.spec_sealing.specs.Passing.{with_room, passed};
 ghost use Rattle.spec_records.specs.Records.{Record, Keyed, record_limit, used, open_context, keys};
@@ -17,15 +18,21 @@ ghost use Rattle.spec_records.specs.RecordRows.{context_with, keys_from, unfit_k
 ghost use Rattle.spec_exchange.specs.Outside.{Journal, Keeper};
 ghost use Rattle.spec_exchange.specs.Rebuilding.{no_block};
 ghost use Rattle.spec_exchange.specs.ReceivingRefusals.{Form, Integrity, Replay, Reconstruction, InClear, NoRoom};
-ghost use Rattle.spec_exchange.specs.AcceptRefusals.{Receiving};
+ghost use Rattle.spec_exchange.specs.AcceptRefusals.{Receiving, OfEntry, Screened};
+ghost use Rattle.spec_exchange.specs.EntryRefusals as entry;
+ghost use Rattle.spec_exchange.specs.EntryChecks.{by_meaning};
+ghost use Rattle.spec_exchange.specs.FirstFailed.{Delivery};
+ghost use Rattle.spec_exchange.specs.Calls.{delivered_record};
+ghost use Rattle.spec_exchange.specs.Accepting.{first_failed};
 ghost use Rattle.spec_exchange.specs.SendingRefusals as sending;
 ghost use Rattle.spec_script.specs.Refusals.{Syntax, BadEvent, NodeUnknown, NodeExists, WireUnknown, Beyond, KeysTwice, ContextNotFound, BadMessage, DeepBody, BadPolicy, ContextUsed, BadForm, BadReport, OfSending, OfReceiving, OfOutside, SignerFailed};
 ghost use Rattle.spec_script.specs.Events.{AddNode, AddContext, AddKeys, Send, Pass, Inject, Alter, Deliver, Restart, Reported, event_of, line_event};
 ghost use Rattle.spec_script.specs.Altering.{altered};
 ghost use Rattle.spec_script.specs.Reports.{report_on};
-ghost use Rattle.spec_script.specs.Steps.{Fine, OnWire, Forwards, Reports, Refuses, refuses, is_full, after};
+ghost use Rattle.spec_script.specs.Steps.{Fine, OnWire, Forwards, Delivers, Reports, Refuses, refuses, is_full, step, after};
 ghost use Rattle.spec_script.specs.Answers.{answer_text};
-ghost use Rattle.spec_script.specs.Rows.{of_members, named, node_fields, policy_document, context_fields, peer_ipx_field, handed_with, key_digits, keys_fields, patch_row, request_document, nested, report_fields, row_report, row_signer, well, unsigned, holding, wired, opened, keyed, lost, untold, bad_record, row_step};
+ghost use Rattle.spec_script.specs.Output.{is_outside_refusal};
+ghost use Rattle.spec_script.specs.Rows.{of_members, named, node_fields, policy_document, context_fields, peer_ipx_field, handed_with, key_digits, keys_fields, patch_row, request_document, nested, report_fields, entry_report_fields, bare_entry_fields, row_report, row_signer, takes_all, fails_first, passes_all, passes_none, well, unsigned, unverified, holding, wired, opened, keyed, lost, untold, bad_record, row_step};
 
 /// Each event is an object that names it; the first member that is missing or has not its form is told.
 pub fn event_rows()
@@ -129,6 +136,20 @@ pub fn alter_rows()
     ensures long { (op : Op) (t u : Tree) → patched t op ≡ Ok u → nat_lt 126 (depth u) ≡ false → nat_lt 16777216 (length (compact_text u)) ≡ true → altered (op ∷ []) t ≡ Err (Beyond long_document) }
 {}
 
+/// A document is accepted under the keeper, the verifier and the screen of its event: one that holds is recorded, a
+/// failure of the verifier is told without a report, and a message that the screen doesn't pass with one.
+pub fn delivery_rows()
+    ensures delivered { (t : Tree) (d : Delivery) → first_failed passes_all (by_meaning takes_all None) [] (codes "B") t ≡ Ok d →
+        row_step (wired (t ∷ [])) well (Deliver (codes "B") (pos 1)) ≡ record { answer = Delivers d; put = Some (delivered_record d); sent = None; sites = (wired []).sites } }
+    ensures verifier { (t : Tree) → first_failed passes_all fails_first [] (codes "B") t ≡ Err (OfEntry 1 entry.VerifierFailed) →
+        row_step (wired (t ∷ [])) unverified (Deliver (codes "B") (pos 1)) ≡ refuses (wired (t ∷ [])) (OfReceiving (OfEntry 1 entry.VerifierFailed) (report_on t (OfEntry 1 entry.VerifierFailed))) }
+    ensures screen { (t : Tree) → first_failed passes_none (by_meaning takes_all None) [] (codes "B") t ≡ Err Screened →
+        step passes_none (wired (t ∷ [])) well (Deliver (codes "B") (pos 1)) ≡ refuses (wired (t ∷ [])) (OfReceiving Screened (report_on t Screened)) }
+    ensures outside { is_outside_refusal (OfReceiving (OfEntry 1 entry.VerifierFailed) None) ≡ true }
+    ensures own { is_outside_refusal (OfReceiving (OfEntry 1 entry.BadSignature) None) ≡ false }
+    ensures text { answer_text 9 (Refuses (OfReceiving (OfEntry 1 entry.VerifierFailed) None)) ≡ codes "{\"detail\":\"1\",\"line\":9,\"name\":\"VERIFIER\",\"refused\":35}" }
+{}
+
 /// Nothing goes on a wire that is full: it holds 134,217,728 bytes or 1,000,000 documents. This is told behind the document's number, and before a document's or a message's form.
 pub fn full_rows()
     ensures bytes { is_full (null ∷ []) ≡ false }
@@ -147,6 +168,13 @@ pub fn report_rows()
     ensures node_first { (row_step (holding []) well (Reported (codes "C") null)).answer ≡ Refuses NodeUnknown }
     ensures made { (t : Tree) (parts : Received) → received t ≡ Ok parts → parts.context ≡ 177 → parts.message ≡ 0 → report_on t (Receiving Integrity) ≡ Some (of_members report_fields) }
     ensures room { (t : Tree) (parts : Received) → received t ≡ Ok parts → report_on t (Receiving NoRoom) ≡ None }
+    // whose entry is refused, which an entry without a form doesn't tell
+    ensures first { (t e f : Tree) (parts : Received) (x : SignedEntry) → received t ≡ Ok parts → parts.context ≡ 177 → parts.message ≡ 0 → parts.entries ≡ e ∷ f ∷ [] → entry_in e ≡ Ok x → x.entry.identity ≡ codes "ipx-a" →
+        report_on t (OfEntry 1 entry.OffRoute) ≡ Some (of_members entry_report_fields) }
+    ensures second { (t e f : Tree) (parts : Received) (x : SignedEntry) → received t ≡ Ok parts → parts.context ≡ 177 → parts.message ≡ 0 → parts.entries ≡ e ∷ f ∷ [] → entry_in f ≡ Ok x → x.entry.identity ≡ codes "ipx-a" →
+        report_on t (OfEntry 2 entry.OtherTag) ≡ Some (of_members entry_report_fields) }
+    ensures formless { (t : Tree) (parts : Received) → received t ≡ Ok parts → parts.context ≡ 177 → parts.message ≡ 0 → report_on t (OfEntry 1 (entry.BadForm (codes "entry"))) ≡ Some (of_members bare_entry_fields) }
+    ensures verifier { (t : Tree) (parts : Received) → received t ≡ Ok parts → report_on t (OfEntry 1 entry.VerifierFailed) ≡ None }
     ensures text { answer_text 12 (Reports (row_report None)) ≡ codes "{\"context\":\"00000000000000b1\",\"error\":\"INTEGRITY_CHECK_FAILED\",\"line\":12,\"message\":\"0000000000000000\"}" }
     ensures entry { answer_text 12 (Reports (row_report (Some (codes "ipx-a")))) ≡ codes "{\"context\":\"00000000000000b1\",\"entry\":\"ipx-a\",\"error\":\"INTEGRITY_CHECK_FAILED\",\"line\":12,\"message\":\"0000000000000000\"}" }
     ensures refused { answer_text 9 (Refuses (OfReceiving (Receiving Integrity) (Some (of_members report_fields)))) ≡ codes "{\"line\":9,\"name\":\"INTEGRITY\",\"refused\":24,\"report\":{\"n32fContextId\":\"00000000000000b1\",\"n32fErrorType\":\"INTEGRITY_CHECK_FAILED\",\"n32fMessageId\":\"0000000000000000\"}}" }

@@ -7,7 +7,7 @@ pub returns-in-Some-Blocks-clause-ran : goal.returns-in-Some-Blocks-clause-ran
 returns-in-Some-Blocks-clause-ran g c =
     let is : c.read_command.result ≡ Some Blocks = cc in
     let command : command_of c.args.words.now ≡ Some Blocks = sym c.read_command.ensures ∙ is in
-    rw command (record { ending = c.run.result; is = c.from.ensures; runs = c.run.ensures.runs; keeper_stays = refl; signer_stays = refl })
+    rw command (record { ending = c.run.result; is = c.from.ensures; runs = c.run.ensures.runs; keeper_stays = refl; signer_stays = refl; verifier_stays = refl })
 
 pub returns-in-Some-Replay-clause-ran : goal.returns-in-Some-Replay-clause-ran
 returns-in-Some-Replay-clause-ran g c =
@@ -28,4 +28,4 @@ pub returns-in-None-clause-ran : goal.returns-in-None-clause-ran
 returns-in-None-clause-ran g c =
     let is : c.read_command.result ≡ None = cc in
     let command : command_of c.args.words.now ≡ None = sym c.read_command.ensures ∙ is in
-    rw command (record { words = refl; source_stays = refl; sink_stays = refl; keeper_stays = refl; signer_stays = refl })
+    rw command (record { words = refl; source_stays = refl; sink_stays = refl; keeper_stays = refl; signer_stays = refl; verifier_stays = refl })

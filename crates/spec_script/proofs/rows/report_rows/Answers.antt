@@ -25,6 +25,22 @@ pub returns-clause-room : goal.returns-clause-room
 unfolding chain.◌>>=◌ escape_byte digits ids.id_text
 returns-clause-room c t parts e = rw e refl
 
+pub returns-clause-first : goal.returns-clause-first
+unfolding chain.◌>>=◌ escape_byte digits ids.id_text
+returns-clause-first c t e f parts x h k m es form who = rw (h, k, m, es, form, who) refl
+
+pub returns-clause-second : goal.returns-clause-second
+unfolding chain.◌>>=◌ escape_byte digits ids.id_text
+returns-clause-second c t e f parts x h k m es form who = rw (h, k, m, es, form, who) refl
+
+pub returns-clause-formless : goal.returns-clause-formless
+unfolding chain.◌>>=◌ escape_byte digits ids.id_text
+returns-clause-formless c t parts h k m = rw (h, k, m) refl
+
+pub returns-clause-verifier : goal.returns-clause-verifier
+unfolding chain.◌>>=◌ escape_byte digits ids.id_text
+returns-clause-verifier c t parts h = rw h refl
+
 pub returns-clause-text : goal.returns-clause-text
 unfolding chain.◌>>=◌ escape_byte digits ids.id_text
 returns-clause-text c = refl
