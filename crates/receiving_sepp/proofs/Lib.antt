@@ -1,5 +1,2 @@
-mod Chain
 mod Calls
-mod Counts
-mod BlockTold
-mod Stages
+mod Verified

@@ -1,4 +1,3 @@
-pub mod Groups
 pub mod Views
 pub mod Refusing
 pub mod Outcome

@@ -2,20 +2,22 @@
 use Rattle.std.specs.Prelude.{◌≡◌, ℕ, List, Option, Result, Ok, Err}
 use Rattle.spec_documents.specs.Tree.{Tree}
 use Rattle.spec_documents.specs.Gives.{Tells}
-use Rattle.spec_records.specs.Records.{Record}
 use Rattle.http_message.specs.Reading.{kind_view, message_view}
 use Rattle.context_store.specs.Stores.{Stored}
-use Rattle.context_store.specs.Changes.{Nothing, CallBy, PutBy, with_room}
-use Rattle.spec_exchange.specs.ReceivingRefusals.{Refusal, NoRoom}
+use Rattle.context_store.specs.Changes.{Nothing, CallBy}
+use Rattle.spec_exchange.specs.AcceptRefusals.{Refusal}
 use Rattle.spec_exchange.specs.Outside.{Cause}
-use Rattle.spec_exchange.specs.FirstFailed.{Delivery, first_failed}
-use Rattle.spec_exchange.specs.Calls.{delivered_record, accepted}
-use Rattle.receiving_sepp.specs.Refusing.{told, told_cause}
+use Rattle.spec_exchange.specs.FirstFailed.{Delivery}
+use Rattle.spec_exchange.specs.EntryChecks.{Verifying}
+use Rattle.spec_exchange.specs.Screens.{Passes}
+use Rattle.spec_exchange.specs.AcceptCalls.{accepted}
+use Rattle.entry_checks.specs.declared.refused.RefusedEntry.{RefusedEntry}
+use Rattle.entry_checks.specs.declared.refused.EntryWhy.TheVariants.{Verifier}
+use Rattle.receiving_sepp.specs.Refusing.{told_cause}
 use Rattle.receiving_sepp.specs.declared.delivery.Delivered.{Delivered}
-use Rattle.receiving_sepp.specs.declared.checks.Checked.{Checked}
-use Rattle.receiving_sepp.specs.declared.faults.CheckFault.{CheckFault}
 use Rattle.receiving_sepp.specs.declared.faults.AcceptFault.{AcceptFault}
 use Rattle.receiving_sepp.specs.declared.faults.AcceptFault.TheVariants as accepting
+use Rattle.receiving_sepp.specs.declared.refused.Refused.TheVariants.{Entry}
 
 -- the message that is delivered, with its id and kind
 pub record Shows (x : Delivered) (d : Delivery) : Type 0 where
@@ -28,29 +30,13 @@ abbrev pub Answers : Result Delivered AcceptFault → Result Delivery (Cause Ref
 Answers (Ok x) wanted = (d : Delivery) × (wanted ≡ Ok d) × Shows x d
 Answers (Err e) wanted = Tells (told_cause e) wanted
 
--- the document is accepted over the records of the store, once it is read, under some choice of the keeper
-abbrev pub Accepts : (held now : Option (List (List ℕ))) (old new : Stored) (node : List ℕ) → Tree → Result Delivered AcceptFault → Type 0
-Accepts held now old new node t (Err accepting.NoMemory) = Nothing held now old new
-Accepts held now old new node t result = CallBy (λ f records. accepted f records node t) (Answers result) held now old new
+-- the document is accepted over the records of the store, once it is read, where the screen passes these messages and the verifier comes to this, under some choice of the keeper
+abbrev pub Accepts : Passes → Verifying → (held now : Option (List (List ℕ))) (old new : Stored) (node : List ℕ) → Tree → Result Delivered AcceptFault → Type 0
+Accepts passes v held now old new node t (Err accepting.NoMemory) = Nothing held now old new
+Accepts passes v held now old new node t result = CallBy (λ f records. accepted passes (record { keeper = f; verifier = v }) records node t) (Answers result) held now old new
 
--- ---- the parts of a call
-
-abbrev pub delivery_view : List ℕ → Checked → Delivery
-delivery_view node c = record {
-  content = message_view c.content;
-  node = node;
-  id = c.context.value;
-  kind = kind_view c.kind;
-  message = c.message.value;
-  mapping = c.mapping;
-}
-
--- the first check that fails, but for the limit on records
-abbrev pub ChecksOut : List Record → List ℕ → Tree → Result Checked CheckFault → Type 0
-ChecksOut records node t (Ok c) = first_failed records node t ≡ with_room NoRoom records (delivery_view node c)
-ChecksOut records node t (Err e) = Tells (told e) (first_failed records node t)
-
--- the record of a delivery is put over the records of a fresh store, and then it is delivered
-abbrev pub Delivers : (held now : Option (List (List ℕ))) (old new : Stored) → Delivery → Result Delivered AcceptFault → Type 0
-Delivers held now old new d (Err accepting.NoMemory) = Nothing held now old new
-Delivers held now old new d result = PutBy NoRoom delivered_record (Answers result) held now old new d
+-- the answer is that the verifier failed, at some entry
+pub record IsOfVerifier (result : Result Delivered AcceptFault) : Type 0 where
+  pub refused : RefusedEntry
+  pub is : result ≡ Err (accepting.Refused (Entry refused))
+  pub verifier : refused.why ≡ Verifier

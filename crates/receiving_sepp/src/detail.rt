@@ -3,7 +3,8 @@ ghost use Rattle.std.specs.Prelude.{◌≡◌, ◌++◌, IfOk, codes};
 ghost use Rattle.std.specs.Fmt.{decimal};
 ghost use Rattle.enc_index.specs.Places.{place_view};
 ghost use Rattle.spec_exchange.specs.RebuildTexts as texts;
-ghost use Rattle.spec_exchange.specs.ReceivingRefusals as spec;
+ghost use Rattle.spec_exchange.specs.AcceptRefusals as spec;
+ghost use Rattle.spec_exchange.specs.ReceivingRefusals.{cipher_name};
 ghost use Rattle.jwe_flat.specs.View.{misfit_view};
 ghost use Rattle.receiving_sepp.specs.Views.{fault_view, refused_view, why_view};
 
@@ -17,7 +18,7 @@ use policy_tables::address_text;
 use std::alloc::Global;
 
 fn cipher_name(why: CipherWhy) -> &'static str
-    ensures { result.now ≡ spec.cipher_name (misfit_view why) }
+    ensures { result.now ≡ cipher_name (misfit_view why) }
 {
     match why {
         CipherWhy::Alg => "alg",
@@ -85,7 +86,8 @@ fn rebuild_text(alloc: Global, why: &RebuildWhy) -> Result<Text, NoMemory>
 }
 
 impl Refused {
-    /// What the refusal names besides, where it names anything: a member, a reason, a number, an address or a limit.
+    /// What the refusal names besides, where it names anything: a member, a reason, a number, an address, what is
+    /// told of an entry, or a limit.
     ///
     /// # Errors
     /// `NoMemory` where memory was refused.
@@ -98,6 +100,7 @@ impl Refused {
             Refused::Replay(number) => number_text(alloc, *number)?,
             Refused::Reconstruction(why) => rebuild_text(alloc, why)?,
             Refused::Policy(address) => address_text(alloc, address)?,
+            Refused::Entry(entry) => return entry.detail(alloc),
             Refused::Limit => Text::from_text(alloc, "records")?,
             _ => return Ok(None),
         };

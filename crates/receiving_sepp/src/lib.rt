@@ -3,13 +3,9 @@
 #![tactic(auto)]
 
 mod accepting;
-mod checks;
 mod delivery;
 mod detail;
 mod faults;
-mod opening;
-mod rebuilding;
-mod received;
 mod refused;
 
 pub use accepting::accept;

@@ -1,9 +1,10 @@
 // Why a document isn't delivered.
 ghost use Rattle.std.specs.Prelude.{◌≡◌};
-ghost use Rattle.spec_exchange.specs.ReceivingRefusals as spec;
+ghost use Rattle.spec_exchange.specs.AcceptRefusals as spec;
 ghost use Rattle.receiving_sepp.specs.Views.{refused_view};
 
 use block_forms::BlockWhy;
+use entry_checks::RefusedEntry;
 use jwe_flat::CipherWhy;
 use n32_values::Text;
 use policy_tables::Address;
@@ -27,8 +28,6 @@ pub enum RebuildWhy {
 pub enum Refused {
     /// The member of this name has not its form; `document` where the whole is no object.
     Form(Text),
-    /// The document has entries of intermediaries, or is of a response: neither is read yet.
-    NotBuilt,
     /// The node has no open context of the document's id.
     ContextNotFound,
     /// The context has no keys.
@@ -39,10 +38,16 @@ pub enum Refused {
     Integrity,
     /// The message was delivered before, as the record of this number says.
     Replay(u64),
+    /// The context sent no request that the response answers.
+    Unasked,
     /// The opened document has no message.
     Reconstruction(RebuildWhy),
     /// The policy makes what stands at this address secret, and the sender left it in clear.
     Policy(Address),
+    /// An entry of an intermediary, the first that is refused.
+    Entry(RefusedEntry),
+    /// The screen doesn't pass the message.
+    Screen,
     /// 1,048,576 records are held.
     Limit,
 }
@@ -54,14 +59,16 @@ impl Refused {
     {
         match self {
             Refused::Form(_) => 20,
-            Refused::NotBuilt => 47,
             Refused::ContextNotFound => 21,
             Refused::NoKeys => 22,
             Refused::Cipher(_) => 23,
             Refused::Integrity => 24,
             Refused::Replay(_) => 25,
+            Refused::Unasked => 38,
             Refused::Reconstruction(_) => 26,
             Refused::Policy(_) => 27,
+            Refused::Entry(entry) => entry.number(),
+            Refused::Screen => 33,
             Refused::Limit => 7,
         }
     }
@@ -72,14 +79,16 @@ impl Refused {
     {
         match self {
             Refused::Form(_) => "FORM",
-            Refused::NotBuilt => "NOT_BUILT",
             Refused::ContextNotFound => "CONTEXT_NOT_FOUND",
             Refused::NoKeys => "NO_KEYS",
             Refused::Cipher(_) => "CIPHER",
             Refused::Integrity => "INTEGRITY",
             Refused::Replay(_) => "REPLAY",
+            Refused::Unasked => "UNASKED",
             Refused::Reconstruction(_) => "RECONSTRUCTION",
             Refused::Policy(_) => "POLICY",
+            Refused::Entry(entry) => entry.name(),
+            Refused::Screen => "SCREEN",
             Refused::Limit => "LIMIT",
         }
     }
