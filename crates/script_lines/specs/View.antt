@@ -9,7 +9,6 @@ use Rattle.context_records.specs.View.{suite_view, key_set_view}
 use Rattle.sending_sepp.specs.Sending as sending
 use Rattle.receiving_sepp.specs.Views.{refused_view}
 use Rattle.spec_exchange.specs.Outside as outside
-use Rattle.spec_exchange.specs.AcceptRefusals as accepting
 use Rattle.spec_messages.specs.Limits.{many_records}
 use Rattle.spec_handshake.specs.Differences.{AtMapping, InTypes}
 use Rattle.spec_handshake.specs.Refusals as handshake
@@ -92,7 +91,7 @@ refusal_view refusals.ContextUsed = spec.ContextUsed
 refusal_view (refusals.Form part) = spec.BadForm (part_name part)
 refusal_view refusals.Report = spec.BadReport
 refusal_view (refusals.Sending fault) = spec.OfSending (sending.refusal_view fault)
-refusal_view (refusals.Receiving refused report) = spec.OfReceiving (accepting.Receiving (refused_view refused)) report
+refusal_view (refusals.Receiving refused report) = spec.OfReceiving (refused_view refused) report
 refusal_view (refusals.Journal number) = spec.OfOutside (outside.Journal number)
 refusal_view refusals.Keeper = spec.OfOutside outside.Keeper
 refusal_view refusals.Signer = spec.SignerFailed
