@@ -140,7 +140,7 @@ pub fn alter_rows()
 /// failure of the verifier is told without a report, and a message that the screen doesn't pass with one.
 pub fn delivery_rows()
     ensures delivered { (t : Tree) (d : Delivery) → first_failed passes_all (by_meaning takes_all None) [] (codes "B") t ≡ Ok d →
-        row_step (wired (t ∷ [])) well (Deliver (codes "B") (pos 1)) ≡ record { answer = Delivers d; put = Some (delivered_record d); sent = None; sites = (wired []).sites } }
+        row_step (wired (t ∷ [])) well (Deliver (codes "B") (pos 1)) ≡ record { answer = Delivers d; put = Some (delivered_record d); sent = None; sites = (wired []).sites; starts = [] } }
     ensures verifier { (t : Tree) → first_failed passes_all fails_first [] (codes "B") t ≡ Err (OfEntry 1 entry.VerifierFailed) →
         row_step (wired (t ∷ [])) unverified (Deliver (codes "B") (pos 1)) ≡ refuses (wired (t ∷ [])) (OfReceiving (OfEntry 1 entry.VerifierFailed) (report_on t (OfEntry 1 entry.VerifierFailed))) }
     ensures screen { (t : Tree) → first_failed passes_none (by_meaning takes_all None) [] (codes "B") t ≡ Err Screened →
