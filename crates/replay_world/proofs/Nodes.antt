@@ -4,6 +4,7 @@ use Rattle.std.proofs.lemmas.Slice.Eq.{bytes_eq-Decides}
 use Rattle.std.proofs.lemmas.List.{map-append}
 use Rattle.context_store.specs.Stores.{Stored}
 use Rattle.spec_script.specs.Events.{AddNode, Restart}
+use Rattle.spec_handshake.specs.Starts.{without_node}
 use Rattle.spec_script.specs.Steps as spec
 use Rattle.spec_script.specs.Steps.{Fine, plmn_at, adds_node, restarts, step}
 use Rattle.spec_script.specs.Answers.{answer_text}

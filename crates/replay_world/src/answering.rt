@@ -26,13 +26,7 @@ use script_lines::{Event, Refusal, Unanswered, refusal_text};
 use spec_script::runs::refusal_changes_nothing;
 use std::alloc::Global;
 
-fn answer_event<
-    K: Keeper,
-    G: Signer,
-    V: Verifier,
-    R: ScreenRule,
-    F: Fn(&Message, &PlmnId) -> bool,
->(
+fn answer_event<K: Keeper, G: Signer, V: Verifier, R: ScreenRule, F: Fn(&Message, &PlmnId) -> bool>(
     alloc: Global,
     world: &mut World,
     keeper: &mut K,
@@ -87,13 +81,7 @@ fn answer_event<
     }
 }
 
-fn answer_line<
-    K: Keeper,
-    G: Signer,
-    V: Verifier,
-    R: ScreenRule,
-    F: Fn(&Message, &PlmnId) -> bool,
->(
+fn answer_line<K: Keeper, G: Signer, V: Verifier, R: ScreenRule, F: Fn(&Message, &PlmnId) -> bool>(
     alloc: Global,
     world: &mut World,
     keeper: &mut K,
@@ -154,9 +142,7 @@ fn text_of_answer<
         (outsiders (G.algorithm signer.new) (G.meaning signer.new) (G.faults signer.new) (V.meaning verifier.new) (V.faults verifier.new) (R.passes (rule_of screen.now))) }
 {
     refusal_changes_nothing();
-    match answer_line(
-        alloc, world, keeper, signer, verifier, screen, number, line,
-    ) {
+    match answer_line(alloc, world, keeper, signer, verifier, screen, number, line) {
         Ok(text) => Ok(text),
         Err(Unanswered::Refused(refusal)) => refused_text(alloc, number, refusal),
         Err(Unanswered::NoMemory) => Err(NoMemory),
@@ -174,13 +160,7 @@ fn text_of_answer<
 ///
 /// # Errors
 /// `NoMemory` leaves the nodes and the wire as they were, and the records as they were or with the event's one record.
-pub fn step<
-    K: Keeper,
-    G: Signer,
-    V: Verifier,
-    R: ScreenRule,
-    F: Fn(&Message, &PlmnId) -> bool,
->(
+pub fn step<K: Keeper, G: Signer, V: Verifier, R: ScreenRule, F: Fn(&Message, &PlmnId) -> bool>(
     alloc: Global,
     world: &mut World,
     number: u64,
@@ -213,7 +193,5 @@ pub fn step<
     ensures others { OthersStay (outsiders (G.algorithm signer.old) (G.meaning signer.old) (G.faults signer.old) (V.meaning verifier.old) (V.faults verifier.old) (R.passes (rule_of screen.now)))
         (outsiders (G.algorithm signer.new) (G.meaning signer.new) (G.faults signer.new) (V.meaning verifier.new) (V.faults verifier.new) (R.passes (rule_of screen.now))) }
 {
-    text_of_answer(
-        alloc, world, keeper, signer, verifier, screen, number, line,
-    )
+    text_of_answer(alloc, world, keeper, signer, verifier, screen, number, line)
 }

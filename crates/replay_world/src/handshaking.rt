@@ -31,11 +31,7 @@ use std::alloc::Global;
 
 // The network of a node, where the wire has room.
 #[tactic(auto, unfolding(spec_documents::specs::Chain::chains))]
-fn check_network<'a>(
-    sites: &'a SiteList,
-    full: bool,
-    node: &Text,
-) -> Result<&'a PlmnId, Unanswered>
+fn check_network<'a>(sites: &'a SiteList, full: bool, node: &Text) -> Result<&'a PlmnId, Unanswered>
     ensures gives { Gives told_refusal (λ p. p.now) result (shaking.network_checked (sites_view sites.now) full node.now) }
     ensures spares { SparesKeeper result }
 {
@@ -126,11 +122,7 @@ fn mapping_differs(number: u32, own: Option<Node>, other: Option<Node>) -> Unans
     let Ok(other) = side_of(other) else {
         return Unanswered::NoMemory;
     };
-    Unanswered::Refused(Refusal::Handshake(HandRefusal::MappingDiffers {
-        number,
-        own,
-        other,
-    }))
+    Unanswered::Refused(Refusal::Handshake(HandRefusal::MappingDiffers { number, own, other }))
 }
 
 fn unshaken(fault: HandFault) -> Unanswered

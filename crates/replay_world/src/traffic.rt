@@ -178,12 +178,7 @@ pub(crate) fn inject(
 }
 
 /// A document on the wire reaches a node, which accepts it or not. A refusal is told with its report.
-pub(crate) fn deliver<
-    K: Keeper,
-    V: Verifier,
-    R: ScreenRule,
-    F: Fn(&Message, &PlmnId) -> bool,
->(
+pub(crate) fn deliver<K: Keeper, V: Verifier, R: ScreenRule, F: Fn(&Message, &PlmnId) -> bool>(
     alloc: Global,
     world: &mut World,
     keeper: &mut K,
