@@ -26,7 +26,14 @@ use std::alloc::Global;
 /// The machine of `replay`: the world that its events change, the keeper of its records, what signs for
 /// intermediaries and verifies that, and the screen of its receivers. It was lent them all.
 #[derive(Drop)]
-pub struct Events<'a, K: Keeper, G: Signer, V: Verifier, R: ScreenRule, F: Fn(&Message, &PlmnId) -> bool> {
+pub struct Events<
+    'a,
+    K: Keeper,
+    G: Signer,
+    V: Verifier,
+    R: ScreenRule,
+    F: Fn(&Message, &PlmnId) -> bool,
+> {
     world: &'a mut World,
     keeper: &'a mut K,
     signer: &'a mut G,
@@ -34,9 +41,8 @@ pub struct Events<'a, K: Keeper, G: Signer, V: Verifier, R: ScreenRule, F: Fn(&M
     screen: &'a Screen<F, R>,
 }
 
-impl<'a, K: Keeper, G: Signer, V: Verifier, R: ScreenRule, F: Fn(&Message, &PlmnId) -> bool>
-    Machine for Events<'a, K, G, V, R, F>
-{
+impl<'a, K: Keeper, G: Signer, V: Verifier, R: ScreenRule, F: Fn(&Message, &PlmnId) -> bool> Machine
+    for Events<'a, K, G, V, R, F> {
     ghost use Rattle.replay_world.specs.Worlds.{IsReady};
     ghost use Rattle.replay_world.specs.Outsiders.{told, outsiders};
     ghost use Rattle.message_screens.specs.Screening.{IsScreen, rule_of};

@@ -42,9 +42,9 @@ pub fn run<
     // What the run leaves, by cases of the command that the words are. For `replay` this is THE REPLAY THEOREM.
     ensures ran { Ran (command_of words.now) source.old source.new sink.old sink.new keeper.old keeper.new signer.old signer.new verifier.old verifier.new
         (seen (S.left source.old) (O.written sink.old) (K.held keeper.old) (S.faults source.old) (O.faults sink.old) (K.faults keeper.old)
-            (outsiders (G.algorithm signer.old) (G.meaning signer.old) (G.faults signer.old) (V.meaning verifier.old) (V.faults verifier.old) (R.passes (rule_of screen.now))))
+        (outsiders (G.algorithm signer.old) (G.meaning signer.old) (G.faults signer.old) (V.meaning verifier.old) (V.faults verifier.old) (R.passes (rule_of screen.now))))
         (seen (S.left source.new) (O.written sink.new) (K.held keeper.new) (S.faults source.new) (O.faults sink.new) (K.faults keeper.new)
-            (outsiders (G.algorithm signer.new) (G.meaning signer.new) (G.faults signer.new) (V.meaning verifier.new) (V.faults verifier.new) (R.passes (rule_of screen.now)))) result }
+        (outsiders (G.algorithm signer.new) (G.meaning signer.new) (G.faults signer.new) (V.meaning verifier.new) (V.faults verifier.new) (R.passes (rule_of screen.now)))) result }
 
     // Words of another shape are refused, and no others.
     ensures words { (result ≡ Status.Words) ↔ (command_of words.now ≡ None) }
@@ -53,9 +53,9 @@ pub fn run<
     // they meant.
     ensures causes { HasCauses
         (seen (S.left source.old) (O.written sink.old) (K.held keeper.old) (S.faults source.old) (O.faults sink.old) (K.faults keeper.old)
-            (outsiders (G.algorithm signer.old) (G.meaning signer.old) (G.faults signer.old) (V.meaning verifier.old) (V.faults verifier.old) (R.passes (rule_of screen.now))))
+        (outsiders (G.algorithm signer.old) (G.meaning signer.old) (G.faults signer.old) (V.meaning verifier.old) (V.faults verifier.old) (R.passes (rule_of screen.now))))
         (seen (S.left source.new) (O.written sink.new) (K.held keeper.new) (S.faults source.new) (O.faults sink.new) (K.faults keeper.new)
-            (outsiders (G.algorithm signer.new) (G.meaning signer.new) (G.faults signer.new) (V.meaning verifier.new) (V.faults verifier.new) (R.passes (rule_of screen.now)))) result }
+        (outsiders (G.algorithm signer.new) (G.meaning signer.new) (G.faults signer.new) (V.meaning verifier.new) (V.faults verifier.new) (R.passes (rule_of screen.now)))) result }
 {
     match read_command(words) {
         Some(Command::Blocks) => Status::from(blocks_word::run(alloc, source, sink)),

@@ -18,7 +18,7 @@ use Rattle.spec_script.specs.Reports.{report_on}
 use Rattle.spec_reports.specs.Report.{Report}
 use Rattle.spec_reports.specs.Document.{report_in}
 use Rattle.spec_script.specs.Answers.{answer_text}
-use Rattle.spec_script.specs.Steps.{State, Step, OnWire, Reports, Refuses, injects, forwards, reports, is_full, plmn_at, step, delivers, delivery_answer, sends_sealed, sealed_answer, sealed_sent, with_sent}
+use Rattle.spec_script.specs.Steps.{State, Step, OnWire, Reports, Refuses, injects, forwards, reports, is_full, plmn_at, delivers, delivery_answer, sends_sealed, sealed_answer, sealed_sent, with_sent}
 use Rattle.sending_sepp.specs.Outcome as sent
 use Rattle.sending_sepp.specs.Sending.{refusal_view as sent_view}
 use Rattle.sending_sepp.specs.declared.fault.ProtectFault.{ProtectFault}

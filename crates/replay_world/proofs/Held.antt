@@ -1,5 +1,5 @@
 -- A step over the records that are held.
-use Rattle.std.proofs.Common.{◌≡◌, true, IfSome, ℕ, List, [], ◌∷◌, ◌++◌, Option, Some, None, IfOk, Result, Ok, Err, refl, sym, subst, ◌∙◌}
+use Rattle.std.proofs.Common.{◌≡◌, true, false, Bool, IfSome, ℕ, List, [], ◌∷◌, ◌++◌, Option, Some, None, IfOk, Result, Ok, Err, refl, sym, subst, ◌∙◌}
 use Rattle.spec_documents.specs.Tree.{Tree}
 use Rattle.spec_documents.specs.Reading.{ReadsTo}
 use Rattle.n32_values.specs.declared.memory.NoMemory.{NoMemory}
@@ -12,10 +12,10 @@ use Rattle.n32_outside.specs.Causes.{Rose}
 use Rattle.spec_script.specs.Events.{line_event}
 use Rattle.spec_script.specs.Refusals.{Syntax, OtherNumber, BadEvent, NodeUnknown, NodeExists, WireUnknown, Beyond, KeysTwice, ContextNotFound, BadMessage, DeepBody, BadPolicy, ContextUsed, BadForm, BadReport, OfSending, OfReceiving, OfOutside, SignerFailed, OfHandshake}
 use Rattle.spec_exchange.specs.EntryRefusals as entries
-use Rattle.spec_exchange.specs.EntryChecks.{Claim, Verdict, Fails, Verifying, verdict_of}
+use Rattle.spec_exchange.specs.EntryChecks.{Claim, Fails, Verifying, verdict_of}
 use Rattle.spec_exchange.specs.AcceptRefusals as receiving
 use Rattle.spec_exchange.proofs.EntryLemmas.{FailsAt}
-use Rattle.entry_checks.specs.Verifiers.{Meaning, Saying, verdict, verifying}
+use Rattle.entry_checks.specs.Verifiers.{Meaning, verifying}
 use Rattle.spec_script.specs.Choices.{Signing, Signs, SignerFails}
 use Rattle.spec_script.specs.Output.{has_refusal, is_signer_refusal, is_verifier_refusal}
 use Rattle.replay_world.specs.Outsiders.{OfSigner, Told, Acting, IsMeant, IsVerified, IsActing, Acted, by, line_steps}

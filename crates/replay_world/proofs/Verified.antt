@@ -1,5 +1,5 @@
 -- What an event goes by where it asks a verifier, and where it asks none.
-use Rattle.std.proofs.Common.{◌≡◌, ℕ, true, Option, None, refl}
+use Rattle.std.proofs.Common.{ℕ, true, Option, None, refl}
 use Rattle.spec_exchange.specs.EntryChecks.{Verifying}
 use Rattle.spec_script.specs.Choices.{Signing}
 use Rattle.entry_checks.specs.Verifiers.{Meaning, Saying, UnderVerifier, verifying}
@@ -7,7 +7,7 @@ use Rattle.replay_world.specs.Outsiders.{Outsiders, Acting, Acted, Signed}
 use Rattle.replay_world.proofs.Signing.{some_signing}
 
 -- the verifier says whatever, and doesn't fail
-any_saying : Saying
+abbrev any_saying : Saying
 any_saying = record { said = λ number. true; failing = None }
 
 -- ---- under a verifier
