@@ -26,7 +26,8 @@ refused_identity es Screened = None
 
 -- the report of a refusal, with the ids of the document's metadata
 abbrev pub report_with : Refusal → Result Received (List ℕ) → Option Tree
-report_with refusal (Ok parts) = option_map report_tree (report_for (telling refusal).number (refused_identity parts.entries refusal) parts.context parts.message)
+report_with refusal (Ok parts) =
+    option_map report_tree (report_for (telling refusal).number (refused_identity parts.entries refusal) parts.context parts.message)
 report_with refusal (Err member) = None
 
 abbrev pub report_on : Tree → Refusal → Option Tree

@@ -95,7 +95,9 @@ bare_entry_fields =
 abbrev pub entry_report_fields : List (List ℕ × Tree)
 entry_report_fields = (
   codes "failedModificationList",
-  items (trees (of_members ((codes "ipxId", words (codes "ipx-a")) ∷ (codes "n32fErrorType", words (codes "INTEGRITY_CHECK_ON_MODIFICATIONS_FAILED")) ∷ []) ∷ [])),
+  items (trees (of_members (
+      (codes "ipxId", words (codes "ipx-a"))
+      ∷ (codes "n32fErrorType", words (codes "INTEGRITY_CHECK_ON_MODIFICATIONS_FAILED")) ∷ []) ∷ [])),
 ) ∷ bare_entry_fields
 
 abbrev pub row_report : Option (List ℕ) → Report
