@@ -1,6 +1,6 @@
 -- What is told and sent of the calls of a handshake is what the definitions have.
-use Rattle.std.proofs.Common.{◌≡◌, ◌+◌, ℕ, List, Option, Some, None, refl, sym, ap, subst, arith}
-use Rattle.spec_documents.specs.Tree.{Tree, depth}
+use Rattle.std.proofs.Common.{◌≡◌, ℕ, Some, refl, sym, ap, subst, arith}
+use Rattle.spec_documents.specs.Tree.{Tree}
 use Rattle.spec_handshake.specs.Documents.{Document, document_tree}
 use Rattle.spec_handshake.specs.Calls as calls
 use Rattle.spec_handshake.specs.Runs.{reply_document, next_document}
@@ -12,7 +12,7 @@ use Rattle.n32c_handshake.specs.declared.replying.Replied.{Replied}
 use Rattle.n32c_handshake.specs.declared.replying.Replied.TheVariants as replied
 use Rattle.n32c_handshake.specs.declared.finishing.Finished.{Finished}
 use Rattle.n32c_handshake.specs.declared.finishing.Finished.TheVariants as finished
-use Rattle.spec_script.specs.Steps.{Forwards, Opens, OpensAs, replied_answer, finished_answer}
+use Rattle.spec_script.specs.Steps.{Forwards, OpensAs, replied_answer, finished_answer}
 use Rattle.replay_world.specs.Worlds.{IsShallow}
 use Rattle.replay_world.specs.Shaking.{forwarded, replied_told, replied_sent, finished_told, finished_sent}
 use Rattle.replay_world.proofs.Handshakes.{Seen}

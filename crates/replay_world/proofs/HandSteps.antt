@@ -1,10 +1,8 @@
 -- The steps of handshakes, once their checks are made.
-use Rattle.std.proofs.Common.{◌≡◌, ◌+◌, ℕ, ℤ, List, length, Some, Result, Ok, Err, refl, ap, ◌∙◌}
+use Rattle.std.proofs.Common.{◌≡◌, ℕ, ℤ, List, Result, Ok, Err, ap, ◌∙◌}
 use Rattle.spec_documents.specs.Tree.{Tree}
-use Rattle.spec_messages.specs.Policy.{Policy}
 use Rattle.spec_exchange.specs.Chain.{◌>>=◌}
 use Rattle.spec_exchange.specs.Outside.{Choice}
-use Rattle.spec_handshake.specs.Documents.{Terminates, Terminated}
 use Rattle.spec_handshake.specs.Starts.{Offer}
 use Rattle.spec_handshake.specs.Calls as calls
 use Rattle.spec_script.specs.Refusals.{Refusal}
@@ -28,14 +26,20 @@ network_err (Ok p) (Ok u) e k h = cc
 network_err (Ok p) (Err d) e k h = let same : d ≡ e = cc in ap Err same
 network_err (Err d) c e k h = let same : d ≡ e = cc in ap Err same
 
-document_ok : {A B D E : Type 0} (a : Result A E) (b : Result B E) (c : Result (Unit {0}) E) (x : A) (y : B) (k : A → B → Result D E) → (a >>= λ p. b >>= λ t. c >>= λ u. Ok (p, t)) ≡ Ok (x, y) → (a >>= λ p. b >>= λ t. c >>= λ u. k p t) ≡ k x y
+abbrev both : {A B : Type 0} → A → B → A × B
+both p t = (p, t)
+
+abbrev pair : {A B E : Type 0} → A → B → Result (A × B) E
+pair p t = Ok (both p t)
+
+document_ok : {A B D E : Type 0} (a : Result A E) (b : Result B E) (c : Result (Unit {0}) E) (x : A) (y : B) (k : A → B → Result D E) → (a >>= λ p. b >>= λ t. c >>= λ u. pair p t) ≡ pair x y → (a >>= λ p. b >>= λ t. c >>= λ u. k p t) ≡ k x y
 unfolding ◌>>=◌
-document_ok (Ok p) (Ok t) (Ok u) x y k h = let one : p ≡ x = cc in let two : t ≡ y = cc in rw (one, two) refl
+document_ok {A} {B} (Ok p) (Ok t) (Ok u) x y k h = let same : both p t ≡ both x y = cc in ap (λ (z : A × B). k z.0 z.1) same
 document_ok (Ok p) (Ok t) (Err d) x y k h = cc
 document_ok (Ok p) (Err d) c x y k h = cc
 document_ok (Err d) b c x y k h = cc
 
-document_err : {A B D E : Type 0} (a : Result A E) (b : Result B E) (c : Result (Unit {0}) E) (e : E) (k : A → B → Result D E) → (a >>= λ p. b >>= λ t. c >>= λ u. Ok (p, t)) ≡ Err e → (a >>= λ p. b >>= λ t. c >>= λ u. k p t) ≡ Err e
+document_err : {A B D E : Type 0} (a : Result A E) (b : Result B E) (c : Result (Unit {0}) E) (e : E) (k : A → B → Result D E) → (a >>= λ p. b >>= λ t. c >>= λ u. pair p t) ≡ Err e → (a >>= λ p. b >>= λ t. c >>= λ u. k p t) ≡ Err e
 unfolding ◌>>=◌
 document_err (Ok p) (Ok t) (Ok u) e k h = cc
 document_err (Ok p) (Ok t) (Err d) e k h = let same : d ≡ e = cc in ap Err same

@@ -1,17 +1,15 @@
 -- What the calls of a handshake leave of a world.
-use Rattle.std.proofs.Common.{◌≡◌, ◌⊎◌, ⊎_elim, ◌+◌, ◌++◌, [], ◌∷◌, ℕ, ◌≤◌, List, length, true, false, Option, Some, None, Result, Ok, Err, refl, sym, ap, subst, ◌∙◌, inl, inr, arith}
+use Rattle.std.proofs.Common.{◌≡◌, ⊎_elim, ℕ, ◌≤◌, List, false, Option, Some, None, Result, Ok, Err, refl, sym, ap, subst, ◌∙◌, inr}
 use Rattle.std.specs.Prelude.{option_map, IsErrOf}
 use Rattle.n32_outside.specs.Causes.{Rose}
-use Rattle.n32_outside.specs.Contents.{Stays}
-use Rattle.spec_documents.specs.Tree.{Tree, depth}
+use Rattle.spec_documents.specs.Tree.{Tree}
 use Rattle.spec_records.specs.Records.{Record}
-use Rattle.spec_exchange.specs.Outside.{Choice, Cause, Own, Outside, Journal, Keeper, Outcome}
+use Rattle.spec_exchange.specs.Outside.{Choice, Cause, Outside, Journal, Keeper, Outcome}
 use Rattle.context_store.specs.Stores.{Stored, IsConsistent}
 use Rattle.context_store.specs.Changes.{Nothing, Change, CallBy}
 use Rattle.spec_handshake.specs.Documents.{Document, document_tree}
 use Rattle.spec_handshake.specs.Refusals as handshake
 use Rattle.spec_handshake.specs.Starts.{Start}
-use Rattle.spec_handshake.proofs.Depth.{document_level}
 use Rattle.n32_values.specs.View.{tree_of}
 use Rattle.policy_documents.specs.declared.same.PolicyMatch.TheVariants as found
 use Rattle.n32c_handshake.specs.declared.fault.HandFault.{HandFault}
@@ -20,7 +18,6 @@ use Rattle.n32c_handshake.specs.Outcome as hands
 use Rattle.n32c_handshake.specs.Progress as progress
 use Rattle.n32c_handshake.specs.declared.finishing.Finished.{Finished}
 use Rattle.spec_handshake.specs.Calls as calls
-use Rattle.spec_script.specs.Refusals as script
 use Rattle.spec_script.specs.Refusals.{OfHandshake, of_cause}
 use Rattle.spec_script.specs.Answers.{answer_text}
 use Rattle.spec_script.specs.Steps.{State, Answer, Step, Refuses, call_answer, call_sent, shakes, with_sent}
@@ -33,8 +30,7 @@ use Rattle.script_lines.specs.declared.unanswered.Unanswered.TheVariants as unan
 use Rattle.replay_world.specs.Worlds.{IsShallow, IsSound, sites_view, state_of}
 use Rattle.replay_world.specs.Stepping.{StepBy, Makes, HasPut, GivesUp, Tells, Comes, is_refusal}
 use Rattle.replay_world.specs.Handling.{Handles}
-use Rattle.replay_world.specs.Wires.{HasMore}
-use Rattle.replay_world.specs.Shaking.{Concludes, HasSent, Unshakes, of_hand}
+use Rattle.replay_world.specs.Shaking.{Concludes, HasSent, of_hand}
 use Rattle.replay_world.specs.declared.world.World.{World}
 use Rattle.replay_world.proofs.Parts.{gives_up_idly}
 use Rattle.replay_world.proofs.Wires.{sound_more}
@@ -56,18 +52,18 @@ Called Is outcome starts held now old new left call = CallAt Is outcome starts h
 
 -- what the starts are follows from what is answered
 pub called_by : {X T : Type 0} (Is : X → T → Type 0) (outcome : Choice → List Record → Outcome handshake.Refusal T) (starts : Choice → List Record → List Start) (held now : Option (List (List ℕ))) (old new : Stored) (left : List Start) (call : Result X HandFault)
-    → hands.Comes Is outcome held now old new call → ((f : Choice) (records : List Record) → hands.Answers Is call (outcome f records).result → left ≡ starts f records) → Called Is outcome starts held now old new left call
-called_by Is outcome starts held now old new left (Ok x) h w = record { by = h; waits = w h.choice h.records h.comes.answer }
-called_by Is outcome starts held now old new left (Err (faults.Journal k)) h w = record { by = h; waits = w h.choice h.records h.comes.answer }
-called_by Is outcome starts held now old new left (Err (faults.Form member)) h w = record { by = h; waits = w h.choice h.records h.comes.answer }
-called_by Is outcome starts held now old new left (Err faults.NoCommonCapability) h w = record { by = h; waits = w h.choice h.records h.comes.answer }
-called_by Is outcome starts held now old new left (Err faults.NoCommonSuite) h w = record { by = h; waits = w h.choice h.records h.comes.answer }
-called_by Is outcome starts held now old new left (Err (faults.PolicyDiffers at own other)) h w = record { by = h; waits = w h.choice h.records h.comes.answer }
-called_by Is outcome starts held now old new left (Err faults.ContextUsed) h w = record { by = h; waits = w h.choice h.records h.comes.answer }
-called_by Is outcome starts held now old new left (Err faults.NotExpected) h w = record { by = h; waits = w h.choice h.records h.comes.answer }
-called_by Is outcome starts held now old new left (Err faults.ContextNotFound) h w = record { by = h; waits = w h.choice h.records h.comes.answer }
-called_by Is outcome starts held now old new left (Err faults.Limit) h w = record { by = h; waits = w h.choice h.records h.comes.answer }
-called_by Is outcome starts held now old new left (Err faults.Keeper) h w = record { by = h; waits = w h.choice h.records h.comes.answer }
+    → hands.Comes Is outcome held now old new call → ((call ≡ Err faults.NoMemory → ⊥) → (f : Choice) (records : List Record) → hands.Answers Is call (outcome f records).result → left ≡ starts f records) → Called Is outcome starts held now old new left call
+called_by Is outcome starts held now old new left (Ok x) h w = record { by = h; waits = w (λ e. cc) h.choice h.records h.comes.answer }
+called_by Is outcome starts held now old new left (Err (faults.Journal k)) h w = record { by = h; waits = w (λ e. cc) h.choice h.records h.comes.answer }
+called_by Is outcome starts held now old new left (Err (faults.Form member)) h w = record { by = h; waits = w (λ e. cc) h.choice h.records h.comes.answer }
+called_by Is outcome starts held now old new left (Err faults.NoCommonCapability) h w = record { by = h; waits = w (λ e. cc) h.choice h.records h.comes.answer }
+called_by Is outcome starts held now old new left (Err faults.NoCommonSuite) h w = record { by = h; waits = w (λ e. cc) h.choice h.records h.comes.answer }
+called_by Is outcome starts held now old new left (Err (faults.PolicyDiffers at own other)) h w = record { by = h; waits = w (λ e. cc) h.choice h.records h.comes.answer }
+called_by Is outcome starts held now old new left (Err faults.ContextUsed) h w = record { by = h; waits = w (λ e. cc) h.choice h.records h.comes.answer }
+called_by Is outcome starts held now old new left (Err faults.NotExpected) h w = record { by = h; waits = w (λ e. cc) h.choice h.records h.comes.answer }
+called_by Is outcome starts held now old new left (Err faults.ContextNotFound) h w = record { by = h; waits = w (λ e. cc) h.choice h.records h.comes.answer }
+called_by Is outcome starts held now old new left (Err faults.Limit) h w = record { by = h; waits = w (λ e. cc) h.choice h.records h.comes.answer }
+called_by Is outcome starts held now old new left (Err faults.Keeper) h w = record { by = h; waits = w (λ e. cc) h.choice h.records h.comes.answer }
 called_by Is outcome starts held now old new left (Err faults.NoMemory) h w = h
 
 -- the starts after a finish

@@ -19,3 +19,4 @@ pub mod Altering
 pub mod HandSteps
 pub mod Handshakes
 pub mod HandSeen
+pub mod HandEvents

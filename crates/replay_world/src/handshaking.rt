@@ -358,7 +358,7 @@ pub(crate) fn terminate<K: Keeper>(
 {
     let full = is_full(world);
     match check_network(&world.sites, full, node) {
-        Ok(_) => {
+        Ok(_plmn) => {
             let made = n32c_handshake::terminate(alloc, &mut world.store, keeper, node, id);
             told_document(alloc, world, number, made)
         }
@@ -381,7 +381,7 @@ pub(crate) fn ended<K: Keeper>(
 {
     let full = is_full(world);
     match check_document(&world.sites, &world.wire, full, node, wire) {
-        Ok((_, document)) => {
+        Ok((_plmn, document)) => {
             let made = n32c_handshake::ended(alloc, &mut world.store, keeper, node, document);
             told_document(alloc, world, number, made)
         }
