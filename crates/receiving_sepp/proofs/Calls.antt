@@ -1,18 +1,45 @@
--- What accepting comes to, from what reading the store comes to.
-use Rattle.std.proofs.Common.{◌≡◌, ℕ, List, Bool, true, false, Option, Err, refl}
+-- What accepting comes to, from what reading the store, the checks and the put come to.
+use Rattle.std.proofs.Common.{◌≡◌, ◌⊎◌, ℕ, ◌<◌, ◌≤◌, List, [], ◌∷◌, ◌++◌, length, Bool, true, false, Option, Result, Ok, Err, refl, sym, subst, ◌∙◌}
+use Rattle.std.specs.Prelude.{IsOk}
 use Rattle.spec_documents.specs.Tree.{Tree}
-use Rattle.n32_outside.specs.Contents.{Stays}
-use Rattle.context_store.specs.Stores.{Stored, NamesBad}
+use Rattle.spec_documents.specs.Gives.{Tells}
+use Rattle.spec_records.specs.Records.{Record, record_limit}
+use Rattle.n32_outside.specs.Contents.{Stays, Gains}
+use Rattle.context_records.specs.Reading.{ReadsRecord, written}
+use Rattle.context_store.specs.Stores.{Stored, Holds, NamesBad}
 use Rattle.context_store.specs.declared.faults.OpenFault.{OpenFault}
 use Rattle.context_store.specs.declared.faults.OpenFault.TheVariants as opening
-use Rattle.context_store.proofs.Calls.{bad_record, unread}
+use Rattle.context_store.specs.Changes.{PutBy, with_room}
+use Rattle.context_store.proofs.Calls.{roomy, recorded, untold, bad_record, unread, refused, put}
+use Rattle.spec_exchange.specs.ReceivingRefusals.{NoRoom}
+use Rattle.spec_exchange.specs.AcceptRefusals.{Receiving}
 use Rattle.spec_exchange.specs.EntryChecks.{Verifying}
 use Rattle.spec_exchange.specs.Screens.{Passes}
+use Rattle.spec_exchange.specs.FirstFailed.{Delivery}
 use Rattle.spec_exchange.specs.Accepting.{first_failed}
 use Rattle.spec_exchange.specs.Calls.{delivered_record}
-use Rattle.receiving_sepp.specs.Refusing.{of_opening}
-use Rattle.receiving_sepp.specs.Outcome.{Answers, Accepts}
+use Rattle.receiving_sepp.specs.Views.{refused_view}
+use Rattle.receiving_sepp.specs.Refusing.{told, of_check, of_opening}
+use Rattle.receiving_sepp.specs.Outcome.{Answers, Shows, Accepts, Delivers}
+use Rattle.receiving_sepp.specs.declared.delivery.Delivered.{Delivered}
+use Rattle.receiving_sepp.specs.declared.faults.CheckFault.{CheckFault}
+use Rattle.receiving_sepp.specs.declared.faults.CheckFault.TheVariants as checking
+use Rattle.receiving_sepp.specs.declared.faults.AcceptFault.{AcceptFault}
 use Rattle.receiving_sepp.specs.declared.faults.AcceptFault.TheVariants as answer
+
+-- ---- the put
+
+pub recorded_delivers : (held now : Option (List (List ℕ))) (old new : Stored) (d : Delivery) (x : Delivered) (r : Record)
+    → r ≡ delivered_record d → Shows x d → length old.records < record_limit → Gains held now (written r) → ReadsRecord (written r) r → new.records ≡ old.records ++ r ∷ [] → new.fresh ≡ true → PutBy (Receiving NoRoom) delivered_record (Answers (Ok x)) held now old new d
+recorded_delivers held now old new d x r is shows lt gains reads more fresh =
+    recorded (Receiving NoRoom) delivered_record (Answers (Ok x)) held now old new d (d, refl, shows) lt (subst (λ r. Gains held now (written r)) is gains) (subst (λ r. ReadsRecord (written r) r) is reads) (subst (λ r. new.records ≡ old.records ++ r ∷ []) is more) fresh
+
+pub untold_delivers : (held now : Option (List (List ℕ))) (old new : Stored) (d : Delivery) (r : Record)
+    → r ≡ delivered_record d → length old.records < record_limit → new.fresh ≡ false → Stays held now ⊎ Gains held now (written r) → ReadsRecord (written r) r → PutBy (Receiving NoRoom) delivered_record (Answers (Err answer.Keeper)) held now old new d
+untold_delivers held now old new d r is lt stale either reads =
+    untold (Receiving NoRoom) delivered_record (Answers (Err answer.Keeper)) held now old new d refl lt stale (subst (λ r. Stays held now ⊎ Gains held now (written r)) is either) (subst (λ r. ReadsRecord (written r) r) is reads)
+
+-- ---- the call
 
 pub stale_of : (b : Bool) → (b ≡ true → ⊥) → b ≡ false
 stale_of true h = absurd (h refl)
@@ -23,3 +50,16 @@ pub unread_accepts : (passes : Passes) (v : Verifying) (held now : Option (List 
 unread_accepts passes v held now old new node t (opening.Journal number) stays before after first = bad_record (λ records. first_failed passes v records node t) delivered_record (Answers (Err (answer.Journal number))) held now old new number refl stays before after first
 unread_accepts passes v held now old new node t opening.Keeper stays before after first = unread (λ records. first_failed passes v records node t) delivered_record (Answers (Err answer.Keeper)) held now old new refl stays before after
 unread_accepts passes v held now old new node t opening.NoMemory stays before after first = record { told = stays; kept = λ f. cc }
+
+-- a check refuses over the records that were read
+pub refused_accepts : (passes : Passes) (v : Verifying) (held now : Option (List (List ℕ))) (old new : Stored) (node : List ℕ) (t : Tree) → Stays held now → Holds now new.records → length new.records ≤ record_limit → new.fresh ≡ true → (old.fresh ≡ true → new ≡ old)
+    → (e : CheckFault) → Tells (told e) (first_failed passes v new.records node t) → Accepts passes v held now old new node t (Err (of_check e))
+refused_accepts passes v held now old new node t stays holds few fresh same (checking.Refused e) h = refused (λ records. first_failed passes v records node t) delivered_record (Answers (Err (answer.Refused e))) held now old new (refused_view e) refl stays holds few fresh same h
+refused_accepts passes v held now old new node t stays holds few fresh same checking.NoMemory h = record { told = stays; kept = same }
+
+-- the record is put over the records that were read
+pub put_accepts : (passes : Passes) (v : Verifying) (held mid now : Option (List (List ℕ))) (old read new : Stored) (node : List ℕ) (t : Tree) (d : Delivery) (result : Result Delivered AcceptFault)
+    → Delivers mid now read new d result → Stays held mid → Holds mid read.records → length read.records ≤ record_limit → read.fresh ≡ true → (old.fresh ≡ true → read ≡ old) → first_failed passes v read.records node t ≡ with_room (Receiving NoRoom) read.records d → Accepts passes v held now old new node t result
+put_accepts passes v held mid now old read new node t d (Err answer.NoMemory) h stays holds few fresh same is = record { told = h.told ∙ stays; kept = λ f. h.kept fresh ∙ same f }
+put_accepts passes v held mid now old read new node t d result h stays holds few fresh same is = put (Receiving NoRoom) (λ records. first_failed passes v records node t) delivered_record (Answers result) held mid now old read new d h stays holds few same is
+

@@ -1,2 +1,7 @@
+mod BlockTold
 mod Calls
+mod Counts
+mod Filling
+mod Leaving
+mod Stages
 mod Verified

@@ -1,3 +1,5 @@
+pub mod Groups
 pub mod Views
 pub mod Refusing
+pub mod Refilling
 pub mod Outcome

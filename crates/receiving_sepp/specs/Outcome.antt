@@ -3,9 +3,13 @@ use Rattle.std.specs.Prelude.{◌≡◌, ℕ, List, Option, Result, Ok, Err}
 use Rattle.spec_documents.specs.Tree.{Tree}
 use Rattle.spec_documents.specs.Gives.{Tells}
 use Rattle.http_message.specs.Reading.{kind_view, message_view}
+use Rattle.spec_records.specs.Records.{Record}
 use Rattle.context_store.specs.Stores.{Stored}
-use Rattle.context_store.specs.Changes.{Nothing, CallBy}
-use Rattle.spec_exchange.specs.AcceptRefusals.{Refusal}
+use Rattle.context_store.specs.Changes.{Nothing, CallBy, PutBy, with_room}
+use Rattle.spec_exchange.specs.ReceivingRefusals.{NoRoom}
+use Rattle.spec_exchange.specs.Accepting.{first_failed}
+use Rattle.spec_exchange.specs.Calls.{delivered_record}
+use Rattle.spec_exchange.specs.AcceptRefusals.{Refusal, Receiving}
 use Rattle.spec_exchange.specs.Outside.{Cause}
 use Rattle.spec_exchange.specs.FirstFailed.{Delivery}
 use Rattle.spec_exchange.specs.EntryChecks.{Verifying}
@@ -13,8 +17,10 @@ use Rattle.spec_exchange.specs.Screens.{Passes}
 use Rattle.spec_exchange.specs.AcceptCalls.{accepted}
 use Rattle.entry_checks.specs.declared.refused.RefusedEntry.{RefusedEntry}
 use Rattle.entry_checks.specs.declared.refused.EntryWhy.TheVariants.{Verifier}
-use Rattle.receiving_sepp.specs.Refusing.{told_cause}
+use Rattle.receiving_sepp.specs.Refusing.{told, told_cause}
 use Rattle.receiving_sepp.specs.declared.delivery.Delivered.{Delivered}
+use Rattle.receiving_sepp.specs.declared.checks.Checked.{Checked}
+use Rattle.receiving_sepp.specs.declared.faults.CheckFault.{CheckFault}
 use Rattle.receiving_sepp.specs.declared.faults.AcceptFault.{AcceptFault}
 use Rattle.receiving_sepp.specs.declared.faults.AcceptFault.TheVariants as accepting
 use Rattle.receiving_sepp.specs.declared.refused.Refused.TheVariants.{Entry}
@@ -40,3 +46,25 @@ pub record IsOfVerifier (result : Result Delivered AcceptFault) : Type 0 where
   pub refused : RefusedEntry
   pub is : result ≡ Err (accepting.Refused (Entry refused))
   pub verifier : refused.why ≡ Verifier
+
+-- ---- the parts of a call
+
+abbrev pub delivery_view : List ℕ → Checked → Delivery
+delivery_view node c = record {
+  content = message_view c.content;
+  node = node;
+  id = c.context.value;
+  kind = kind_view c.kind;
+  message = c.message.value;
+  mapping = c.mapping;
+}
+
+-- the first check that fails, but for the limit on records
+abbrev pub ChecksOut : Passes → Verifying → List Record → List ℕ → Tree → Result Checked CheckFault → Type 0
+ChecksOut passes v records node t (Ok c) = first_failed passes v records node t ≡ with_room (Receiving NoRoom) records (delivery_view node c)
+ChecksOut passes v records node t (Err e) = Tells (told e) (first_failed passes v records node t)
+
+-- the record of a delivery is put over the records of a fresh store, and then it is delivered
+abbrev pub Delivers : (held now : Option (List (List ℕ))) (old new : Stored) → Delivery → Result Delivered AcceptFault → Type 0
+Delivers held now old new d (Err accepting.NoMemory) = Nothing held now old new
+Delivers held now old new d result = PutBy (Receiving NoRoom) delivered_record (Answers result) held now old new d

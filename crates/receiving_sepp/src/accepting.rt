@@ -8,6 +8,7 @@ ghost use Rattle.entry_checks.specs.Verifiers.{UnderVerifier};
 ghost use Rattle.message_screens.specs.Screening.{IsScreen, rule_of};
 ghost use Rattle.receiving_sepp.specs.Outcome.{Accepts, IsOfVerifier};
 
+use crate::calling::accept_once;
 use crate::delivery::Delivered;
 use crate::faults::AcceptFault;
 use context_store::Store;
@@ -15,6 +16,7 @@ use http_message::Message;
 use message_screens::{Screen, ScreenRule};
 use n32_outside::{Keeper, Verifier};
 use n32_values::{Doc, PlmnId, Text};
+use spec_exchange::accepting::verifier_failure_is_one;
 use std::alloc::Global;
 
 /// Accepts a document at a node: checks it in the order of `Refused`, puts a record of the delivery, and
@@ -49,6 +51,6 @@ pub fn accept<K: Keeper, V: Verifier, R: ScreenRule, F: Fn(&Message, &PlmnId) ->
         (λ v. IsOk (first_failed (R.passes (rule_of screen.now)) v store.old.records node.now document.now)) }
     ensures unasked { (d : Received) → received document.now ≡ Ok d → d.entries ≡ [] → verifier.new ≡ verifier.old }
 {
-    store.refresh(alloc, keeper)?;
-    Err(AcceptFault::NoMemory)
+    verifier_failure_is_one();
+    accept_once(alloc, store, keeper, verifier, screen, node, document)
 }

@@ -3,6 +3,15 @@ use crate::refused::Refused;
 use context_store::OpenFault;
 use n32_values::NoMemory;
 
+/// Why the checks of a document come to no message.
+#[derive(Drop)]
+pub(crate) enum CheckFault {
+    /// A check refuses it.
+    Refused(Refused),
+    /// Memory was refused.
+    NoMemory,
+}
+
 /// Why accepting a document delivers nothing.
 #[derive(Drop)]
 pub enum AcceptFault {
@@ -16,6 +25,17 @@ pub enum AcceptFault {
     NoMemory,
 }
 
+impl From<NoMemory> for CheckFault {
+    ghost use Rattle.std.specs.Prelude.{◌≡◌};
+    ghost use Rattle.receiving_sepp.specs.declared.faults.CheckFault.TheVariants.{NoMemory as refused_memory};
+
+    ghost from_gives = { λ _ e. e ≡ refused_memory };
+
+    fn from(_refused: NoMemory) -> CheckFault {
+        CheckFault::NoMemory
+    }
+}
+
 impl From<NoMemory> for AcceptFault {
     ghost use Rattle.std.specs.Prelude.{◌≡◌};
     ghost use Rattle.receiving_sepp.specs.declared.faults.AcceptFault.TheVariants.{NoMemory as refused_memory};
@@ -24,6 +44,20 @@ impl From<NoMemory> for AcceptFault {
 
     fn from(_refused: NoMemory) -> AcceptFault {
         AcceptFault::NoMemory
+    }
+}
+
+impl From<CheckFault> for AcceptFault {
+    ghost use Rattle.std.specs.Prelude.{◌≡◌};
+    ghost use Rattle.receiving_sepp.specs.Refusing.{of_check};
+
+    ghost from_gives = { λ fault e. e ≡ of_check fault };
+
+    fn from(fault: CheckFault) -> AcceptFault {
+        match fault {
+            CheckFault::Refused(refused) => AcceptFault::Refused(refused),
+            CheckFault::NoMemory => AcceptFault::NoMemory,
+        }
     }
 }
 

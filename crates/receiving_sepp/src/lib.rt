@@ -3,9 +3,18 @@
 #![tactic(auto)]
 
 mod accepting;
+mod calling;
+mod changing;
+mod checks;
 mod delivery;
 mod detail;
 mod faults;
+mod laws;
+mod mapping;
+mod opened;
+mod opening;
+mod rebuilding;
+mod received;
 mod refused;
 
 pub use accepting::accept;

@@ -1,5 +1,5 @@
 -- What stays the same of signer, verifier and screen in a run, and how often keeper, signer and verifier failed.
-use Rattle.std.specs.Prelude.{ℕ, ◌≤◌, List, Option, Some, None}
+use Rattle.std.specs.Prelude.{ℕ, ◌≤◌, List, true, Option, Some, None}
 use Rattle.n32_outside.specs.declared.algorithm.JwsAlg.{JwsAlg}
 use Rattle.jws_flat.specs.View.{alg_view}
 use Rattle.entry_checks.specs.Verifiers.{Meaning, says}

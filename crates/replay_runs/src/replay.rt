@@ -27,22 +27,36 @@ use std::alloc::Global;
 /// intermediaries and verifies that, and the screen of its receivers. It was lent them all.
 #[derive(Drop)]
 pub struct Events<
-    'a,
+    'w,
+    'k,
+    'g,
+    'v,
+    's,
     K: Keeper,
     G: Signer,
     V: Verifier,
     R: ScreenRule,
     F: Fn(&Message, &PlmnId) -> bool,
 > {
-    world: &'a mut World,
-    keeper: &'a mut K,
-    signer: &'a mut G,
-    verifier: &'a mut V,
-    screen: &'a Screen<F, R>,
+    world: &'w mut World,
+    keeper: &'k mut K,
+    signer: &'g mut G,
+    verifier: &'v mut V,
+    screen: &'s Screen<F, R>,
 }
 
-impl<'a, K: Keeper, G: Signer, V: Verifier, R: ScreenRule, F: Fn(&Message, &PlmnId) -> bool> Machine
-    for Events<'a, K, G, V, R, F> {
+impl<
+    'w,
+    'k,
+    'g,
+    'v,
+    's,
+    K: Keeper,
+    G: Signer,
+    V: Verifier,
+    R: ScreenRule,
+    F: Fn(&Message, &PlmnId) -> bool,
+> Machine for Events<'w, 'k, 'g, 'v, 's, K, G, V, R, F> {
     ghost use Rattle.replay_world.specs.Worlds.{IsReady};
     ghost use Rattle.replay_world.specs.Outsiders.{told, outsiders};
     ghost use Rattle.message_screens.specs.Screening.{IsScreen, rule_of};

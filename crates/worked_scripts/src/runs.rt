@@ -1,9 +1,11 @@
 // Runs over objects in memory whose calls fail, over records that were held before, and over a file.
+use http_message::Message;
 use jws_flat::Hs256;
+use message_screens::{OriginRule, Screen};
 use n32_outside::{
     CallList, FailAt, FailItem, FailList, FileKeeper, Keeper, MemKeeper, MemSink, MemSource,
 };
-use n32_values::{Bytes, Text, TextList};
+use n32_values::{Bytes, PlmnId, Text, TextList};
 use replay_runs::{Status, run};
 use std::alloc::Global;
 use std::fs;
@@ -100,6 +102,7 @@ struct Objects {
     source: Option<MemSource>,
     sink: MemSink,
     signer: Option<FailAt<Hs256>>,
+    verifier: Option<FailAt<Hs256>>,
 }
 
 fn words_of(alloc: Global, words: &[&str]) -> TextList {
@@ -127,7 +130,7 @@ fn source_of(alloc: Global, script: &[u8], fails: &[u64]) -> Option<MemSource> {
     }
 }
 
-// A signer that fails at these calls.
+// A signer, or a verifier, that fails at these calls.
 fn signer_of(alloc: Global, fails: &[u64]) -> Option<FailAt<Hs256>> {
     match Hs256::new(alloc, b"n32-demo") {
         Ok(signer) => Some(FailAt::new(signer, calls(alloc, fails))),
@@ -148,6 +151,7 @@ fn objects_of(
         source: source_of(alloc, script, reads),
         sink: MemSink::new(alloc, calls(alloc, writes)),
         signer: signer_of(alloc, &[]),
+        verifier: signer_of(alloc, &[]),
     }
 }
 
@@ -184,8 +188,16 @@ fn ends<K: Keeper>(
     wanted: Status,
     output: &str,
 ) -> bool {
-    match (&mut objects.source, &mut objects.signer) {
-        (Some(source), Some(signer)) => {
+    let screen = Screen::new(
+        |message: &Message, plmn: &PlmnId| OriginRule::passes(message, plmn),
+        OriginRule,
+    );
+    match (
+        &mut objects.source,
+        &mut objects.signer,
+        &mut objects.verifier,
+    ) {
+        (Some(source), Some(signer), Some(verifier)) => {
             let status = run(
                 alloc,
                 &objects.words,
@@ -193,6 +205,8 @@ fn ends<K: Keeper>(
                 &mut objects.sink,
                 keeper,
                 signer,
+                verifier,
+                &screen,
             );
             status == wanted && objects.sink.written() == output.as_bytes()
         }
@@ -239,6 +253,43 @@ fn a_fault_of_the_signer_leaves_the_wire(rt: HostRuntime) {
             rt.alloc(),
             &[OPENING, KEYS_OF_A, KEYS_OF_B, SEND, PASS, INJECT],
             &[OPENED, SENT, SIGNER_8, WIRE_9],
+        )
+    );
+}
+
+// The document with an entry of ipx-a, computed apart from the program.
+const PASSED_8: &str =
+    "{\"document\":{\"modificationsBlock\":[{\"payload\":\"eyJpZGVudGl0eSI6ImlweC1hIiwib3BlcmF0aW9ucyI6W10sInRhZyI6Im1NbHpDd3FZb1pUM1FpTWNBNm9ZMmcifQ\",\"protected\":\"eyJhbGciOiJIUzI1NiJ9\",\"signature\":\"-3nabGHehIrNc_X01WmKAA5Ab91uSzyFP7PxPSxdczk\"}],\"reformattedData\":{\"aad\":\"eyJoZWFkZXJzIjpbeyJoZWFkZXIiOiJhY2NlcHQiLCJ2YWx1ZSI6ImFwcGxpY2F0aW9uL2pzb24ifV0sIm1ldGFEYXRhIjp7ImF1dGhvcml6ZWRJcHhJZCI6ImlweC1hIiwibWVzc2FnZUlkIjoiMDAwMDAwMDAwMDAwMDAwMCIsIm4zMmZDb250ZXh0SWQiOiIwMDAwMDAwMDAwMDAwMGIxIn0sInJlcXVlc3RMaW5lIjp7ImF1dGhvcml0eSI6InVkbS5leGFtcGxlIiwibWV0aG9kIjoiR0VUIiwicGF0aCI6Ii9udWRtLXNkbS92Mi97ZW5jQmxvY2tJbmRleD0wfS9uc3NhaSIsInByb3RvY29sVmVyc2lvbiI6IkhUVFAvMiIsInNjaGVtZSI6Imh0dHBzIn19\",\"ciphertext\":\"Zzb2AvTVkvAtcM02dImHwnWkMh3TvbW4wDADdqoUwfX91dWf1iwKaoPu\",\"iv\":\"AAECAwQFBgcAAAAA\",\"protected\":\"eyJhbGciOiJkaXIiLCJlbmMiOiJBMTI4R0NNIn0\",\"tag\":\"mMlzCwqYoZT3QiMcA6oY2g\"}},\"line\":8,\"wire\":2}\n";
+
+const DELIVER_PASSED: &str = "{\"do\":\"deliver\",\"node\":\"B\",\"wire\":2}\n";
+
+const VERIFIER_9: &str = "{\"detail\":\"1\",\"line\":9,\"name\":\"VERIFIER\",\"refused\":35}\n";
+
+// Whether a script is answered so, where the first call of the verifier fails.
+fn replays_unverified(alloc: Global, events: &[&str], answers: &[&str]) -> bool {
+    let script = joined(alloc, events);
+    let output = joined(alloc, answers);
+    let mut objects = objects_of(alloc, &["replay"], script.as_bytes(), &[], &[]);
+    objects.verifier = signer_of(alloc, &[0]);
+    let mut keeper = keeper_of(alloc, &[], &[]);
+    ends(alloc, objects, &mut keeper, Status::Done, output.as_str())
+}
+
+#[test]
+fn a_fault_of_the_verifier_delivers_nothing(rt: HostRuntime) {
+    assert!(rt;
+        replays_unverified(
+            rt.alloc(),
+            &[
+                OPENING,
+                KEYS_OF_A,
+                KEYS_OF_B,
+                SEND,
+                PASS,
+                DELIVER_PASSED,
+                DELIVER_PASSED
+            ],
+            &[OPENED, SENT, PASSED_8, VERIFIER_9, DELIVERED_10],
         )
     );
 }

@@ -6,9 +6,11 @@ ghost use Rattle.replay_world.specs.Worlds.{IsReady, IsSound, AreDistinct, IsSha
 
 use crate::runs::keeper_of;
 use context_store::{Store, new_store, open_store};
+use http_message::Message;
 use jws_flat::Hs256;
+use message_screens::{OriginRule, Screen};
 use n32_outside::Keeper;
-use n32_values::{Doc, DocList, Text, depth, read_doc, read_plmn, text_length};
+use n32_values::{Doc, DocList, NoMemory, PlmnId, Text, depth, read_doc, read_plmn, text_length};
 use replay_world::{Site, SiteList, World, new_world, step};
 use std::alloc::Global;
 
@@ -37,6 +39,10 @@ const DELIVER: &str = "{\"do\":\"deliver\",\"node\":\"B\",\"wire\":1}";
 const DELIVERED: &str =
     "{\"delivered\":{\"headers\":[{\"header\":\"accept\",\"value\":\"application/json\"}],\"requestLine\":{\"authority\":\"udm.example\",\"method\":\"GET\",\"path\":\"/nudm-sdm/v2/imsi-001010000000001/nssai\",\"protocolVersion\":\"HTTP/2\",\"scheme\":\"https\"}},\"line\":8,\"message\":\"0000000000000000\"}";
 
+fn demo_keys(alloc: Global) -> Result<Hs256, NoMemory> {
+    Hs256::new(alloc, b"n32-demo")
+}
+
 // Whether a line is answered so.
 fn answers<K: Keeper>(
     alloc: Global,
@@ -49,12 +55,27 @@ fn answers<K: Keeper>(
     requires { IsReady (K.held keeper.old) world.old }
     ensures { IsReady (K.held keeper.new) world.new }
 {
-    let Ok(mut signer) = Hs256::new(alloc, b"n32-demo") else {
-        return false;
-    };
-    match step(alloc, world, number, line.as_bytes(), keeper, &mut signer) {
-        Ok(text) => text.as_slice() == wanted.as_bytes(),
-        Err(_) => false,
+    let screen = Screen::new(
+        |message: &Message, plmn: &PlmnId| OriginRule::passes(message, plmn),
+        OriginRule,
+    );
+    match (demo_keys(alloc), demo_keys(alloc)) {
+        (Ok(mut signer), Ok(mut verifier)) => {
+            match step(
+                alloc,
+                world,
+                number,
+                line.as_bytes(),
+                keeper,
+                &mut signer,
+                &mut verifier,
+                &screen,
+            ) {
+                Ok(text) => text.as_slice() == wanted.as_bytes(),
+                Err(_) => false,
+            }
+        }
+        _ => false,
     }
 }
 
