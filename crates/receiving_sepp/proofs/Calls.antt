@@ -1,5 +1,5 @@
 -- What accepting comes to, from what reading the store, the checks and the put come to.
-use Rattle.std.proofs.Common.{◌≡◌, ◌⊎◌, ℕ, ◌<◌, ◌≤◌, List, [], ◌∷◌, ◌++◌, length, Bool, true, false, Option, Result, Ok, Err, refl, sym, subst, ◌∙◌}
+use Rattle.std.proofs.Common.{◌≡◌, ◌⊎◌, ℕ, ◌<◌, ◌≤◌, List, [], ◌∷◌, ◌++◌, length, Bool, true, false, Option, Result, Ok, Err, refl, subst, ◌∙◌}
 use Rattle.std.specs.Prelude.{IsOk}
 use Rattle.spec_documents.specs.Tree.{Tree}
 use Rattle.spec_documents.specs.Gives.{Tells}
@@ -10,7 +10,8 @@ use Rattle.context_store.specs.Stores.{Stored, Holds, NamesBad}
 use Rattle.context_store.specs.declared.faults.OpenFault.{OpenFault}
 use Rattle.context_store.specs.declared.faults.OpenFault.TheVariants as opening
 use Rattle.context_store.specs.Changes.{PutBy, with_room}
-use Rattle.context_store.proofs.Calls.{roomy, recorded, untold, bad_record, unread, refused, put}
+use Rattle.context_store.proofs.Calls.{recorded, untold, bad_record, unread, refused, put}
+use Rattle.spec_exchange.specs.Outside.{Read, ReadFails, BadRecord, Reading, Putting, Kept, Lost, KeptUntold, Own, Outside, Keeper, puts, behind_reading, or_refusal}
 use Rattle.spec_exchange.specs.ReceivingRefusals.{NoRoom}
 use Rattle.spec_exchange.specs.AcceptRefusals.{Receiving}
 use Rattle.spec_exchange.specs.EntryChecks.{Verifying}
@@ -18,7 +19,10 @@ use Rattle.spec_exchange.specs.Screens.{Passes}
 use Rattle.spec_exchange.specs.FirstFailed.{Delivery}
 use Rattle.spec_exchange.specs.Accepting.{first_failed}
 use Rattle.spec_exchange.specs.Calls.{delivered_record}
+use Rattle.entry_checks.specs.Views as entries
+use Rattle.entry_checks.specs.declared.refused.RefusedEntry.{RefusedEntry}
 use Rattle.receiving_sepp.specs.Views.{refused_view}
+use Rattle.receiving_sepp.specs.declared.refused.Refused.TheVariants.{Entry}
 use Rattle.receiving_sepp.specs.Refusing.{told, of_check, of_opening}
 use Rattle.receiving_sepp.specs.Outcome.{Answers, Shows, Accepts, Delivers}
 use Rattle.receiving_sepp.specs.declared.delivery.Delivered.{Delivered}
@@ -63,3 +67,34 @@ pub put_accepts : (passes : Passes) (v : Verifying) (held mid now : Option (List
 put_accepts passes v held mid now old read new node t d (Err answer.NoMemory) h stays holds few fresh same is = record { told = h.told ∙ stays; kept = λ f. h.kept fresh ∙ same f }
 put_accepts passes v held mid now old read new node t d result h stays holds few fresh same is = put (Receiving NoRoom) (λ records. first_failed passes v records node t) delivered_record (Answers result) held mid now old read new d h stays holds few same is
 
+-- ---- what an answer tells of the checks
+
+own_refused : {X R : Type 0} (reading : Reading) (r : Result X R) (p : Putting) (item : X → Record) (e : R) → (behind_reading reading (or_refusal r (λ x. puts p (item x) x))).result ≡ Err (Own e) → r ≡ Err e
+own_refused Read (Ok x) Kept item e is = cc
+own_refused Read (Ok x) Lost item e is = cc
+own_refused Read (Ok x) KeptUntold item e is = cc
+own_refused Read (Err d) p item e is = cc
+own_refused ReadFails r p item e is = cc
+own_refused (BadRecord k) r p item e is = cc
+
+put_failed : {X R : Type 0} (reading : Reading) (r : Result X R) (p : Putting) (item : X → Record) → reading ≡ Read → (behind_reading reading (or_refusal r (λ x. puts p (item x) x))).result ≡ Err (Outside Keeper) → IsOk r
+put_failed Read (Ok x) p item read is = refl
+put_failed Read (Err d) p item read is = cc
+put_failed ReadFails r p item read is = cc
+put_failed (BadRecord k) r p item read is = cc
+
+-- an entry is refused by the checks, over some records
+pub entry_refused : (passes : Passes) (v : Verifying) (held now : Option (List (List ℕ))) (old new : Stored) (node : List ℕ) (t : Tree) (e : RefusedEntry) → Accepts passes v held now old new node t (Err (answer.Refused (Entry e)))
+    → (records : List Record) × (first_failed passes v records node t ≡ Err (entries.refused_view e))
+entry_refused passes v held now old new node t e h = (h.records, own_refused h.choice.reading (first_failed passes v h.records node t) h.choice.putting delivered_record (entries.refused_view e) h.comes.answer)
+
+-- where the keeper of a fresh store failed every check holds
+pub all_hold : (passes : Passes) (v : Verifying) (held now : Option (List (List ℕ))) (old new : Stored) (node : List ℕ) (t : Tree) → Accepts passes v held now old new node t (Err answer.Keeper) → old.fresh ≡ true → IsOk (first_failed passes v old.records node t)
+all_hold passes v held now old new node t h f =
+    let same = h.fresh f in
+    subst (λ records. IsOk (first_failed passes v records node t)) same.1 (put_failed h.choice.reading (first_failed passes v h.records node t) h.choice.putting delivered_record same.0 h.comes.answer)
+
+-- no check answers that the keeper failed
+pub other_than_keeper : (e : CheckFault) → of_check e ≡ answer.Keeper → ⊥
+other_than_keeper (checking.Refused e) is = cc
+other_than_keeper checking.NoMemory is = cc

@@ -1,5 +1,5 @@
 -- A document's tree is in order, and values that fill a message have a fill of what entries that hold make of it.
-use Rattle.std.proofs.Common.{◌≡◌, ℕ, List, [], length, true, Option, Some, None, Ok, subst, sym, ◌∙◌}
+use Rattle.std.proofs.Common.{◌≡◌, List, [], length, true, Option, Some, None, Ok, subst, sym}
 use Rattle.std.proofs.lemmas.Bool.{and_parts}
 use Rattle.spec_documents.specs.Tree.{Tree, is_tree, is_ordered}
 use Rattle.spec_documents.specs.Patch.{Op}

@@ -1,5 +1,5 @@
 -- What entries leave of a message.
-use Rattle.std.proofs.Common.{◌≡◌, ℕ, List, [], ◌∷◌, length, Bool, true, false, Option, Some, None, Result, Ok, refl, ap, sym, subst}
+use Rattle.std.proofs.Common.{◌≡◌, List, [], ◌∷◌, length, Bool, true, false, Option, Some, None, Result, Ok, refl, ap, sym, subst}
 use Rattle.std.specs.Prelude.{if◌then◌else◌, nat_le, ◌&&◌}
 use Rattle.spec_documents.specs.Tree.{Tree}
 use Rattle.spec_documents.specs.Chain.{◌>>=◌}

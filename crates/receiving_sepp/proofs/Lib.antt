@@ -1,6 +1,7 @@
 mod BlockTold
 mod Calls
 mod Counts
+mod Failures
 mod Filling
 mod Leaving
 mod Stages

@@ -1,6 +1,6 @@
 -- The stages that are taken together, within the checks of a document.
 use Rattle.std.proofs.Common.{◌≡◌, ℕ, List, [], length, Bool, true, false, Option, Some, None, Result, Ok, Err, refl, ap, sym, subst, ◌∙◌}
-use Rattle.std.specs.Prelude.{nat_le, unwrap_or}
+use Rattle.std.specs.Prelude.{nat_le, not, unwrap_or}
 use Rattle.spec_documents.specs.Tree.{Tree}
 use Rattle.spec_documents.specs.Chain.{◌>>=◌}
 use Rattle.spec_documents.specs.Gives.{Tells}
@@ -20,11 +20,12 @@ use Rattle.spec_exchange.specs.ReceivingRefusals.{Form, NoContext, NoReceiveKeys
 use Rattle.spec_exchange.specs.Rebuilding.{no_values, no_block, no_fill, read_block, filled_with}
 use Rattle.spec_exchange.specs.FirstFailed as stages
 use Rattle.spec_exchange.specs.FirstFailed.{Delivery, delivery_at, is_first, is_sealed, key_for, opens, has_room}
-use Rattle.spec_exchange.specs.AcceptRefusals.{Refusal, Receiving}
+use Rattle.spec_exchange.specs.AcceptRefusals.{Refusal, Receiving, Screened}
 use Rattle.spec_exchange.specs.Asked.{MappedBy, asked_for, mapping_by}
-use Rattle.spec_exchange.specs.EntryChecks.{Verifying, Progress, entries_applied}
+use Rattle.spec_exchange.specs.EntryChecks.{Verifying, entries_applied}
 use Rattle.spec_exchange.specs.Screens.{Passes}
 use Rattle.spec_exchange.specs.Accepting.{stage, formed, sealed_values, terms_of, is_passed, first_failed, first_failed_of}
+use Rattle.spec_exchange.proofs.ChainLemmas.{bind_then, ok_same}
 use Rattle.receiving_sepp.specs.Groups.{keyed, first_asked, Unsealed, unsealed, Rebuilt, rebuilt_block, Revealed, revealed, outline_of, Opened, opened, changed_in, delivery_of, ending}
 
 -- ---- chains
@@ -147,7 +148,7 @@ module _ (passes : Passes) (v : Verifying) (records : List Record) (node : List 
   after_rebuilt : (d : Received) (x : Context) (by : MappedBy) (plain : List ℕ) (m : stages.Rebuilt)
       → (stage (is_sealed x.policy (mapping_by by x.policy m.content) m) >>= λ _. ending passes v records node (record { context = x; outline = outline_of d; revealed = record { rebuilt = with_block d.block (sealed_values plain) m; mapping = mapping_by by x.policy m.content } }))
       ≡ (stage (is_sealed x.policy (mapping_by by x.policy m.content) m) >>= λ _. entries_applied (terms_of x d (mapping_by by x.policy m.content) (sealed_values plain)) v d.block m.holed d.entries >>= λ p.
-          is_passed passes x (fill_whole (sealed_values plain) p.holed) >>= λ _. stage (has_room records) >>= λ _. Ok (delivery_at node d (mapping_by by x.policy m.content) (fill_whole (sealed_values plain) p.holed)))
+      is_passed passes x (fill_whole (sealed_values plain) p.holed) >>= λ _. stage (has_room records) >>= λ _. Ok (delivery_at node d (mapping_by by x.policy m.content) (fill_whole (sealed_values plain) p.holed)))
   after_rebuilt d x by plain m =
       bind_on (stage (is_sealed x.policy (mapping_by by x.policy m.content) m)) _ _ λ u.
       one (entries_applied (terms_of x d (mapping_by by x.policy m.content) (sealed_values plain)) v d.block m.holed d.entries) (λ p. fill_whole (sealed_values plain) p.holed)
@@ -210,3 +211,17 @@ form_is (Err m) d w is form = cc
 
 pub same_parts : (t : Tree) (d w : Received) → received t ≡ Ok d → formed t ≡ Ok w → d ≡ w
 same_parts t d w is form = form_is (received t) d w is form
+
+-- so those of an opened document are none where the document has none
+pub opened_none : (records : List Record) (node : List ℕ) (t : Tree) (o : Opened) → opened records node t ≡ Ok o → (d : Received) → received t ≡ Ok d → d.entries ≡ [] → o.outline.entries ≡ []
+opened_none records node t o e d is none =
+    bind_then _ _ o e λ w e_form e1.
+    bind_then _ _ o e1 λ u e_unsealed e2.
+    bind_then _ _ o e2 λ x e_revealed e3.
+    let P : Opened → Type 0 = λ o. o.outline.entries ≡ [] in
+    subst P (ok_same {E = Refusal} _ o e3) (subst (λ (z : Received). z.entries ≡ []) (same_parts t d w is e_form) none)
+
+-- ---- the screen
+
+pub not_passed : (passes : Passes) (x : Context) (m : Message) → passes m x.plmn ≡ false → is_passed passes x m ≡ Err Screened
+not_passed passes x m e = ap (λ b. unless (not b) Screened) e

@@ -5,7 +5,7 @@ use Rattle.spec_messages.specs.Message.{Message}
 use Rattle.spec_messages.specs.Block.{IsBlock, clear_message}
 use Rattle.spec_messages.specs.Fault.{block_fault}
 use Rattle.spec_messages.specs.Rebuilt.{fill_fault}
-use Rattle.spec_messages.specs.Split.{filled, fill_whole}
+use Rattle.spec_messages.specs.Split.{filled}
 use Rattle.receiving_sepp.specs.Groups.{Rebuilt}
 
 -- the values fill the message of the block

@@ -18,12 +18,7 @@ use n32_values::{Doc, PlmnId, Text};
 use std::alloc::Global;
 
 /// A stale store is read, the document checked, and the record of its delivery put.
-pub(crate) fn accept_once<
-    K: Keeper,
-    V: Verifier,
-    R: ScreenRule,
-    F: Fn(&Message, &PlmnId) -> bool,
->(
+pub(crate) fn accept_once<K: Keeper, V: Verifier, R: ScreenRule, F: Fn(&Message, &PlmnId) -> bool>(
     alloc: Global,
     store: &mut Store,
     keeper: &mut K,

@@ -1,4 +1,4 @@
-use Rattle.std.proofs.Common.{◌≡◌, ℕ, length, Result, Ok, sym, ap, arith, ◌∙◌}
+use Rattle.std.proofs.Common.{◌≡◌, length, Result, Ok, sym, ap, arith, ◌∙◌}
 use Rattle.spec_messages.specs.Message.{Message}
 use Rattle.http_message.specs.Reading.{message_view}
 use Rattle.http_message.specs.declared.message.Message as read

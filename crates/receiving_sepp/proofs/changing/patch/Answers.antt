@@ -1,10 +1,10 @@
-use Rattle.std.proofs.Common.{◌≡◌, ℕ, length, Result, Ok, refl, sym, ap, ◌∙◌}
+use Rattle.std.proofs.Common.{length, Result, Ok, refl, sym, ap, ◌∙◌}
 use Rattle.spec_documents.proofs.Chains.{bind_at}
 use Rattle.spec_messages.specs.Message.{Message}
 use Rattle.spec_messages.specs.Split.{fill_whole}
 use Rattle.block_patch.specs.Commutes.{BlockOf}
 use Rattle.http_message.specs.Reading.{message_view}
-use Rattle.spec_exchange.specs.EntryChecks.{Progress, Verifying, entries_applied}
+use Rattle.spec_exchange.specs.EntryChecks.{Progress, entries_applied}
 use Rattle.spec_exchange.specs.AcceptRefusals.{Refusal}
 use Rattle.entry_checks.specs.Verifiers.{verifying}
 use Rattle.entry_checks.specs.Views as entries
