@@ -26,14 +26,13 @@ unfolding ◌>>=◌
 bind_room records c (Ok y) k h = h y
 bind_room records c (Err e) k h = err_room records c e
 
-behind_limit : {X T : Type 0} (records : List Record) (c : X → Outcome Refusal T) (k : Unit {0} → Result X Refusal) → HasRoom records c (room_for_record records >>= k)
+passed : {Y : Type 0} (b : Bool) (e : Refusal) (k : Unit {0} → Result Y Refusal) (x : Y) → (unless b e >>= k) ≡ Ok x → b ≡ false
 unfolding ◌>>=◌
+passed true e k x is = cc
+passed false e k x is = refl
+
+behind_limit : {X T : Type 0} (records : List Record) (c : X → Outcome Refusal T) (k : Unit {0} → Result X Refusal) → HasRoom records c (room_for_record records >>= k)
 behind_limit records c k = record { room = λ x item is put. leb-false _ _ (passed _ _ k x is) }
-  where
-    passed : {Y : Type 0} (b : Bool) (e : Refusal) (k : Unit {0} → Result Y Refusal) (x : Y) → (unless b e >>= k) ≡ Ok x → b ≡ false
-    unfolding ◌>>=◌
-    passed true e k x is = cc
-    passed false e k x is = refl
 
 -- over the whole call
 call_room : {X T : Type 0} (records : List Record) (reading : Reading) (r : Result X Refusal) (c : X → Outcome Refusal T) → HasRoom records c r → (item : Record) → (behind_reading reading (or_refusal r c)).put ≡ Some item → length records < record_limit
