@@ -29,7 +29,7 @@ by_step means x texts now old records line are signs h = by_reading h.choice.rea
   where
     unread : (h.choice.reading ≡ Read → ⊥) → Puts means old records line now
     unread not_read =
-        let same = line_same (sites_view old.sites) old.wire h.records records means.passes (by x h.choice) not_read (line_event line) in
+        let same = line_same (sites_view old.sites) old.wire old.hands h.records records means.passes (by x h.choice) not_read (line_event line) in
         (by x h.choice, by_any means x h.choice signs, tells_put texts now records (line_step means.passes (state_of old records) (by x h.choice) line).put are (subst (λ (r : Step). Keeps (Some texts) now r.put) same.is h.leaves))
 
     by_reading : (reading : Reading) → h.choice.reading ≡ reading → Puts means old records line now

@@ -34,7 +34,7 @@ use Rattle.replay_runs.proofs.InPart.{cut_reply, given_reply, unbegun_reply}
 abbrev Kept : {M : Type 0} → (M → Told) → (M → World) → GivesUp M → Type 0
 Kept {M} outside world gives_up = (a b : M) (n : ℕ) (line : List ℕ) → gives_up a n line b → GivesUpLine (outside a) (outside b) (world a) (world b) line
 
--- a run begins in a world without nodes and documents
+-- a run begins in a world without nodes, documents and starts
 abbrev Begins : World → List Record → Type 0
 Begins w records = state_of w records ≡ begin records
 
@@ -172,9 +172,9 @@ leaves_lent means outside world gives_up first left old new stored before after 
     let R : Status → Type 0 = λ z. IfSome first (λ script. OverRecords (outside old).held (λ records. Leaves means script left records (outside new).held (counts_of (outside old)) (counts_of (outside new)) before after z)) in
     subst P (sym h) (subst Q (sym k) (subst R (sym s) (leaves_told means outside world gives_up first left old new stored before after e is holds few begins kept ends)))
 
--- a world without nodes and documents
-pub begins_of : (w : World) (records : List Record) → w.sites ≡ [] → w.wire ≡ [] → state_of w records ≡ begin records
-begins_of w records sites wire = rw (sites, wire) refl
+-- a world without nodes, documents and starts
+pub begins_of : (w : World) (records : List Record) → w.sites ≡ [] → w.wire ≡ [] → w.hands ≡ [] → state_of w records ≡ begin records
+begins_of w records sites wire hands = rw (sites, wire, hands) refl
 
 -- ---- statuses of the reading of lines
 

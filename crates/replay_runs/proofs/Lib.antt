@@ -1,4 +1,5 @@
 pub mod Plain
+pub mod HandRooms
 pub mod Rooms
 pub mod Went
 pub mod GivenUp

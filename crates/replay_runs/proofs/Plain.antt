@@ -10,7 +10,7 @@ use Rattle.spec_exchange.specs.AcceptRefusals as receiving
 use Rattle.spec_documents.specs.Lines.{is_blank}
 use Rattle.spec_script.specs.Events.{line_event}
 use Rattle.spec_script.specs.Refusals as spec
-use Rattle.spec_script.specs.Steps.{State, Answer, Fine, OnWire, Sends, Forwards, Delivers, Reports, Refuses, after, line_step}
+use Rattle.spec_script.specs.Steps.{State, Answer, Fine, OnWire, Sends, Forwards, Delivers, Opens, OpensAs, EndsTls, Reports, Refuses, after, line_step}
 use Rattle.spec_script.specs.Answers.{answer_text}
 use Rattle.spec_script.specs.Output.{Answers, Answered, Numbered, answers_text, has_refusal, is_keeper_refusal, is_signer_refusal, is_verifier_refusal, is_outside_refusal}
 use Rattle.spec_script.proofs.FaultLemmas.{line_determined}
@@ -85,6 +85,7 @@ refusal_outside : (e : spec.Refusal) → is_keeper_refusal e ≡ false → is_si
 refusal_outside (spec.OfOutside outside.Keeper) k g v j = k
 refusal_outside (spec.OfOutside (outside.Journal number)) k g v j = j
 refusal_outside (spec.OfSending refusal) k g v j = refl
+refusal_outside (spec.OfHandshake refusal) k g v j = refl
 refusal_outside (spec.OfReceiving (receiving.Receiving refusal) report) k g v j = refl
 refusal_outside (spec.OfReceiving receiving.Unasked report) k g v j = refl
 refusal_outside (spec.OfReceiving receiving.Screened report) k g v j = refl
@@ -119,6 +120,9 @@ answer_outside (Sends x number) k g v j = refl
 answer_outside (Forwards t number) k g v j = refl
 answer_outside (Reports r) k g v j = refl
 answer_outside (Delivers d) k g v j = refl
+answer_outside (Opens document number id) k g v j = refl
+answer_outside (OpensAs id) k g v j = refl
+answer_outside EndsTls k g v j = refl
 
 -- a count of none
 pub record NoneOf (p : Numbered → Bool) (x : Numbered) (xs : List Numbered) : Type 0 where

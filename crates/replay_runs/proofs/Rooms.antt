@@ -14,10 +14,12 @@ use Rattle.spec_exchange.specs.Calls.{Outgoing, sends, protected, delivered_reco
 use Rattle.spec_exchange.proofs.ChainLemmas.{puts-some, protected-ok}
 use Rattle.spec_exchange.proofs.AcceptLemmas.{accepted-passed}
 use Rattle.spec_script.specs.Refusals.{Refusal}
-use Rattle.spec_script.specs.Events.{Event, AddNode, AddContext, AddKeys, Send, Inject, Deliver, Restart, Pass, Alter, Reported, line_event}
+use Rattle.spec_script.specs.Events.{Event, AddNode, AddContext, AddKeys, Send, Inject, Deliver, Restart, Pass, Alter, Reported, StartWith, AnswerTo, FinishBy, Terminate, EndBy, line_event}
 use Rattle.spec_script.specs.Choices.{Signing, Signs, SignerFails, Choices}
 use Rattle.spec_script.specs.Steps.{State, Step, refuses, or_refuses, puts, sends_sealed, delivers, room_for_record, passes_on, opens, keys_up, step, step_with, line_step}
+use Rattle.spec_script.specs.Offers.{offer_of}
 use Rattle.spec_script.proofs.StepLemmas.{through}
+use Rattle.replay_runs.proofs.HandRooms.{start_room, answer_room, finish_room, terminate_room, ended_room}
 
 -- what is held after the step is within the limit
 abbrev Fits : State → Step → Type 0
@@ -85,6 +87,16 @@ event_fits passes s f (Alter number ops) = through (Fits s) s _ _ (refused_fits 
 event_fits passes s f (Deliver node number) = through (Fits s) s _ _ (refused_fits s) λ plmn. through (Fits s) s _ _ (refused_fits s) λ t. came_fits passes s (record { keeper = f.keeper; verifier = f.verifier }) node t
 event_fits passes s f (Restart node) = through (Fits s) s _ _ (refused_fits s) λ plmn few. few
 event_fits passes s f (Reported node t) = through (Fits s) s _ _ (refused_fits s) λ plmn. through (Fits s) s _ _ (refused_fits s) λ r few. few
+event_fits passes s f (StartWith node peer x) = through (Fits s) s _ _ (refused_fits s) λ plmn. through (Fits s) s _ _ (refused_fits s) λ room. through (Fits s) s _ _ (refused_fits s) λ policy.
+    put_fits s.records _ λ r e. start_room f.keeper s.records node (offer_of x policy) r e
+event_fits passes s f (AnswerTo node number x) = through (Fits s) s _ _ (refused_fits s) λ plmn. through (Fits s) s _ _ (refused_fits s) λ t. through (Fits s) s _ _ (refused_fits s) λ room. through (Fits s) s _ _ (refused_fits s) λ policy.
+    put_fits s.records _ λ r e. answer_room f.keeper s.records node plmn (offer_of x policy) t r e
+event_fits passes s f (FinishBy node number) = through (Fits s) s _ _ (refused_fits s) λ plmn. through (Fits s) s _ _ (refused_fits s) λ t. through (Fits s) s _ _ (refused_fits s) λ room.
+    put_fits s.records _ λ r e. finish_room f.keeper s.records s.starts node plmn t r e
+event_fits passes s f (Terminate node id) = through (Fits s) s _ _ (refused_fits s) λ plmn. through (Fits s) s _ _ (refused_fits s) λ room.
+    put_fits s.records _ λ r e. terminate_room f.keeper s.records node id r e
+event_fits passes s f (EndBy node number) = through (Fits s) s _ _ (refused_fits s) λ plmn. through (Fits s) s _ _ (refused_fits s) λ t. through (Fits s) s _ _ (refused_fits s) λ room.
+    put_fits s.records _ λ r e. ended_room f.keeper s.records node t r e
 
 read_fits : (passes : Passes) (s : State) (f : Choices) (r : Result Event Refusal) → Fits s (step_with passes s f r)
 read_fits passes s f (Ok e) = event_fits passes s f e

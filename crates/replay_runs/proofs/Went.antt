@@ -16,7 +16,7 @@ use Rattle.replay_world.specs.Outsiders.{Outsiders, Told, OthersStay, IsMeant, I
 use Rattle.replay_runs.specs.Outsiders.{Counts, counts_of, Later, meanings_told, meanings_of}
 use Rattle.spec_exchange.specs.Outside as outside
 use Rattle.spec_script.specs.Refusals as spec
-use Rattle.spec_script.specs.Steps.{State, Answer, Fine, OnWire, Sends, Forwards, Delivers, Reports, Refuses, after, line_step}
+use Rattle.spec_script.specs.Steps.{State, Answer, Fine, OnWire, Sends, Forwards, Delivers, Opens, OpensAs, EndsTls, Reports, Refuses, after, line_step}
 use Rattle.spec_script.specs.Answers.{answer_text}
 use Rattle.spec_script.specs.Output.{Answered, Numbered, answers_text, has_refusal, is_keeper_refusal, is_signer_refusal, is_verifier_refusal}
 use Rattle.context_store.specs.Stores.{AreRecords, HasNoBad}
@@ -50,6 +50,7 @@ pub answer_sound : (a : Answer) → ((k : ℕ) → a ≡ Refuses (spec.OfOutside
 answer_sound (Refuses (spec.OfOutside (outside.Journal number))) none = absurd (none number refl)
 answer_sound (Refuses (spec.OfOutside outside.Keeper)) none = refl
 answer_sound (Refuses (spec.OfSending refusal)) none = refl
+answer_sound (Refuses (spec.OfHandshake refusal)) none = refl
 answer_sound (Refuses (spec.OfReceiving refusal report)) none = refl
 answer_sound (Refuses (spec.Beyond limit)) none = refl
 answer_sound (Refuses spec.ContextNotFound) none = refl
@@ -73,6 +74,9 @@ answer_sound (Sends x number) none = refl
 answer_sound (Forwards t number) none = refl
 answer_sound (Reports r) none = refl
 answer_sound (Delivers d) none = refl
+answer_sound (Opens document number id) none = refl
+answer_sound (OpensAs id) none = refl
+answer_sound EndsTls none = refl
 
 -- ---- the keeper's faults
 

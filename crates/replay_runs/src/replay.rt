@@ -101,7 +101,8 @@ impl<
     }
 }
 
-// Answers each line of the script in a world whose records were read, and which has no node and no document yet.
+// Answers each line of the script in a world whose records were read, and which has no node, no document and no
+// start of a handshake yet.
 fn replay_lines<
     S: Source,
     O: Sink,
@@ -124,6 +125,7 @@ fn replay_lines<
     requires follows { IsScreen F.Fn R.passes screen.now }
     requires sites { world.old.sites ≡ [] }
     requires wire { world.old.wire ≡ [] }
+    requires hands { world.old.hands ≡ [] }
     requires held { Holds (K.held keeper.old) world.old.store.records }
     requires few { length world.old.store.records ≤ record_limit }
     ensures theorem { IfSome (meanings_told (G.algorithm signer.old) (G.meaning signer.old) (V.meaning verifier.old) (R.passes (rule_of screen.now))) (λ means. IfSome (S.left source.old) (λ script. OverRecords (K.held keeper.old) (λ records.

@@ -21,11 +21,11 @@ use Rattle.replay_world.proofs.Handling.{undelivered_keeper}
 pub handles_undelivered : (passes : Passes) (v : Verifying) (steps : State → Choice → Step) (held now : Option (List (List ℕ))) (before after_ : ℕ) (old new : World) (number : ℕ) (node : List ℕ) (t : Tree) (e : AcceptFault) (why : Unanswered)
     → Undelivers t e why → received.Accepts passes v held now old.store new.store node t (Err e)
     → ((records : List Record) (f : Choice) → steps (state_of old records) f ≡ delivers (state_of old records) t (taken passes v node t f records))
-    → new.sites ≡ old.sites → new.wire ≡ old.wire → IsReady now new → before ≤ after_ → (e ≡ accepting.Keeper → Rose before after_)
+    → new.sites ≡ old.sites → new.hands ≡ old.hands → new.wire ≡ old.wire → IsReady now new → before ≤ after_ → (e ≡ accepting.Keeper → Rose before after_)
     → Handles steps held now before after_ old new number (Err why)
-handles_undelivered passes v steps held now before after_ old new number node t e why told h same sites wire ready later failed = ⊎_elim
+handles_undelivered passes v steps held now before after_ old new number node t e why told h same sites starts wire ready later failed = ⊎_elim
     (λ is. subst (λ (w : Unanswered). Handles steps held now before after_ old new number (Err w)) (sym is) (record {
-      comes = comes_undelivered passes v steps held now old new number node t e h same sites wire;
+      comes = comes_undelivered passes v steps held now old new number node t e h same sites starts wire;
       ready = ready;
       later = later;
       failed = λ is_keeper. failed (undelivered_keeper t e is_keeper);

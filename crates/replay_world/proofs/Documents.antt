@@ -56,10 +56,10 @@ told_delivered t number text x r a is =
 -- the wire and the nodes stay
 pub comes_delivered : (passes : Passes) (v : Verifying) (steps : State → Choice → Step) (held now : Option (List (List ℕ))) (old new : World) (number : ℕ) (text node : List ℕ) (t : Tree) (x : Delivered)
     → received.Accepts passes v held now old.store new.store node t (Ok x) → ((records : List Record) (f : Choice) → steps (state_of old records) f ≡ delivers (state_of old records) t (taken passes v node t f records))
-    → new.sites ≡ old.sites → new.wire ≡ old.wire → text ≡ texts.delivered_answer number (message_view x.message) x.id.value → Comes steps held now old new number (Ok text)
-comes_delivered passes v steps held now old new number text node t x h same sites wire is =
+    → new.sites ≡ old.sites → new.hands ≡ old.hands → new.wire ≡ old.wire → text ≡ texts.delivered_answer number (message_view x.message) x.id.value → Comes steps held now old new number (Ok text)
+comes_delivered passes v steps held now old new number text node t x h same sites starts wire is =
     by_call (taken passes v node t) (received.Answers (Ok x)) steps (λ s o. delivers s t o) held now old new.store (Makes (Tells number (Ok text)) held now old.wire new) h same
-    (λ records o a change. record { told = told_delivered t number text x o.result a is; sites = ap sites_view sites; sent = wire; change = change })
+    (λ records o a change. record { told = told_delivered t number text x o.result a is; sites = ap sites_view sites; starts = starts; sent = wire; change = change })
 
 pub delivery_gives_up : (passes : Passes) (v : Verifying) (steps : State → Choice → Step) (held now : Option (List (List ℕ))) (old new : World) (node : List ℕ) (t : Tree) (x : Delivered)
     → received.Accepts passes v held now old.store new.store node t (Ok x) → ((records : List Record) (f : Choice) → steps (state_of old records) f ≡ delivers (state_of old records) t (taken passes v node t f records))
@@ -74,18 +74,18 @@ delivery_gives_up passes v steps held now old new node t x h same sites wire = r
 undelivered_by : (passes : Passes) (v : Verifying) (steps : State → Choice → Step) (held now : Option (List (List ℕ))) (old new : World) (number : ℕ) (node : List ℕ) (t : Tree) (e : AcceptFault) (c : Cause receiving.Refusal) (refusal : Refusal)
     → ((r : Result Delivery (Cause receiving.Refusal)) → received.Answers (Err e) r → r ≡ Err c) → of_cause (λ d. OfReceiving d (report_on t d)) c ≡ refusal_view refusal
     → CallBy (taken passes v node t) (received.Answers (Err e)) held now old.store new.store → ((records : List Record) (f : Choice) → steps (state_of old records) f ≡ delivers (state_of old records) t (taken passes v node t f records))
-    → new.sites ≡ old.sites → new.wire ≡ old.wire → Comes steps held now old new number (Err (unanswered.Refused refusal))
-undelivered_by passes v steps held now old new number node t e c refusal is view h same sites wire =
+    → new.sites ≡ old.sites → new.hands ≡ old.hands → new.wire ≡ old.wire → Comes steps held now old new number (Err (unanswered.Refused refusal))
+undelivered_by passes v steps held now old new number node t e c refusal is view h same sites starts wire =
     by_call (taken passes v node t) (received.Answers (Err e)) steps (λ s o. delivers s t o) held now old new.store (Makes (Tells number (Err (unanswered.Refused refusal))) held now old.wire new) h same
-    (λ records o a change. record { told = ap (delivery_answer t) (is o.result a) ∙ ap Refuses view; sites = ap sites_view sites; sent = wire; change = change })
+    (λ records o a change. record { told = ap (delivery_answer t) (is o.result a) ∙ ap Refuses view; sites = ap sites_view sites; starts = starts; sent = wire; change = change })
 
 pub comes_undelivered : (passes : Passes) (v : Verifying) (steps : State → Choice → Step) (held now : Option (List (List ℕ))) (old new : World) (number : ℕ) (node : List ℕ) (t : Tree) (e : AcceptFault)
     → received.Accepts passes v held now old.store new.store node t (Err e) → ((records : List Record) (f : Choice) → steps (state_of old records) f ≡ delivers (state_of old records) t (taken passes v node t f records))
-    → new.sites ≡ old.sites → new.wire ≡ old.wire → Comes steps held now old new number (Err (of_receiving t e))
-comes_undelivered passes v steps held now old new number node t (accepting.Refused r) h same sites wire = undelivered_by passes v steps held now old new number node t (accepting.Refused r) (Own (refused_view r)) (refusals.Receiving r (report_on t (refused_view r))) (λ r a. a) refl h same sites wire
-comes_undelivered passes v steps held now old new number node t (accepting.Journal k) h same sites wire = undelivered_by passes v steps held now old new number node t (accepting.Journal k) (Outside (Journal k)) (refusals.Journal k) (λ r a. a) refl h same sites wire
-comes_undelivered passes v steps held now old new number node t accepting.Keeper h same sites wire = undelivered_by passes v steps held now old new number node t accepting.Keeper (Outside Keeper) refusals.Keeper (λ r a. a) refl h same sites wire
-comes_undelivered passes v steps held now old new number node t accepting.NoMemory h same sites wire = gives_up_idly steps held now old new sites wire h.told
+    → new.sites ≡ old.sites → new.hands ≡ old.hands → new.wire ≡ old.wire → Comes steps held now old new number (Err (of_receiving t e))
+comes_undelivered passes v steps held now old new number node t (accepting.Refused r) h same sites starts wire = undelivered_by passes v steps held now old new number node t (accepting.Refused r) (Own (refused_view r)) (refusals.Receiving r (report_on t (refused_view r))) (λ r a. a) refl h same sites starts wire
+comes_undelivered passes v steps held now old new number node t (accepting.Journal k) h same sites starts wire = undelivered_by passes v steps held now old new number node t (accepting.Journal k) (Outside (Journal k)) (refusals.Journal k) (λ r a. a) refl h same sites starts wire
+comes_undelivered passes v steps held now old new number node t accepting.Keeper h same sites starts wire = undelivered_by passes v steps held now old new number node t accepting.Keeper (Outside Keeper) refusals.Keeper (λ r a. a) refl h same sites starts wire
+comes_undelivered passes v steps held now old new number node t accepting.NoMemory h same sites starts wire = gives_up_idly steps held now old new sites wire h.told
 
 gives_up_by_call : (passes : Passes) (v : Verifying) (steps : State → Choice → Step) (held now : Option (List (List ℕ))) (old new : World) (node : List ℕ) (t : Tree) (e : AcceptFault)
     → CallBy (taken passes v node t) (received.Answers (Err e)) held now old.store new.store → ((records : List Record) (f : Choice) → steps (state_of old records) f ≡ delivers (state_of old records) t (taken passes v node t f records))
@@ -117,10 +117,10 @@ sent_sealed wire t r a = ap (λ (d : Tree). wire ++ d ∷ []) a.2 ∙ ap (λ (z 
 -- the document goes last on the wire
 pub comes_sealed : (o : Outgoing) (steps : State → Choice → Step) (held now : Option (List (List ℕ))) (old new : World) (number : ℕ) (text node : List ℕ) (id : ℕ) (m : Message) (t : Tree)
     → sent.ProtectsAs o held now old.store new.store node id m (Ok t) → ((records : List Record) (f : Choice) → steps (state_of old records) f ≡ sends_sealed (state_of old records) (sends f records node id o m))
-    → new.sites ≡ old.sites → new.wire ≡ old.wire ++ t ∷ [] → text ≡ texts.document_answer number t (length old.wire + 1) → Comes steps held now old new number (Ok text)
-comes_sealed o steps held now old new number text node id m t h same sites wire is =
+    → new.sites ≡ old.sites → new.hands ≡ old.hands → new.wire ≡ old.wire ++ t ∷ [] → text ≡ texts.document_answer number t (length old.wire + 1) → Comes steps held now old new number (Ok text)
+comes_sealed o steps held now old new number text node id m t h same sites starts wire is =
     by_call (λ f records. sends f records node id o m) (sent.Answers (Ok t)) steps sends_sealed held now old new.store (Makes (Tells number (Ok text)) held now old.wire new) h same
-    (λ records r a change. record { told = told_sealed number (length old.wire + 1) text t r.result a is; sites = ap sites_view sites; sent = wire ∙ sent_sealed old.wire t r.result a; change = change })
+    (λ records r a change. record { told = told_sealed number (length old.wire + 1) text t r.result a is; sites = ap sites_view sites; starts = starts; sent = wire ∙ sent_sealed old.wire t r.result a; change = change })
 
 pub sealing_gives_up : (o : Outgoing) (steps : State → Choice → Step) (held now : Option (List (List ℕ))) (old new : World) (node : List ℕ) (id : ℕ) (m : Message) (t : Tree)
     → sent.ProtectsAs o held now old.store new.store node id m (Ok t) → ((records : List Record) (f : Choice) → steps (state_of old records) f ≡ sends_sealed (state_of old records) (sends f records node id o m))
@@ -138,18 +138,18 @@ unsent_sealed wire c r h = ap (λ (z : Result Sealed (Cause sending.Refusal)). w
 unsealed_by : (o : Outgoing) (steps : State → Choice → Step) (held now : Option (List (List ℕ))) (old new : World) (number : ℕ) (node : List ℕ) (id : ℕ) (m : Message) (e : ProtectFault) (c : Cause sending.Refusal) (refusal : Refusal)
     → ((r : Result Sealed (Cause sending.Refusal)) → sent.Answers (Err e) r → r ≡ Err c) → of_cause OfSending c ≡ refusal_view refusal
     → CallBy (λ f records. sends f records node id o m) (sent.Answers (Err e)) held now old.store new.store → ((records : List Record) (f : Choice) → steps (state_of old records) f ≡ sends_sealed (state_of old records) (sends f records node id o m))
-    → new.sites ≡ old.sites → new.wire ≡ old.wire → Comes steps held now old new number (Err (unanswered.Refused refusal))
-unsealed_by o steps held now old new number node id m e c refusal is view h same sites wire =
+    → new.sites ≡ old.sites → new.hands ≡ old.hands → new.wire ≡ old.wire → Comes steps held now old new number (Err (unanswered.Refused refusal))
+unsealed_by o steps held now old new number node id m e c refusal is view h same sites starts wire =
     by_call (λ f records. sends f records node id o m) (sent.Answers (Err e)) steps sends_sealed held now old new.store (Makes (Tells number (Err (unanswered.Refused refusal))) held now old.wire new) h same
-    (λ records r a change. record { told = ap (sealed_answer (length old.wire + 1)) (is r.result a) ∙ ap Refuses view; sites = ap sites_view sites; sent = wire ∙ unsent_sealed old.wire c r.result (is r.result a); change = change })
+    (λ records r a change. record { told = ap (sealed_answer (length old.wire + 1)) (is r.result a) ∙ ap Refuses view; sites = ap sites_view sites; starts = starts; sent = wire ∙ unsent_sealed old.wire c r.result (is r.result a); change = change })
 
 pub comes_unsealed : (o : Outgoing) (steps : State → Choice → Step) (held now : Option (List (List ℕ))) (old new : World) (number : ℕ) (node : List ℕ) (id : ℕ) (m : Message) (e : ProtectFault)
     → sent.ProtectsAs o held now old.store new.store node id m (Err e) → ((records : List Record) (f : Choice) → steps (state_of old records) f ≡ sends_sealed (state_of old records) (sends f records node id o m))
-    → new.sites ≡ old.sites → new.wire ≡ old.wire → Comes steps held now old new number (Err (of_sending e))
-comes_unsealed o steps held now old new number node id m (protecting.Refused r) h same sites wire = unsealed_by o steps held now old new number node id m (protecting.Refused r) (Own (sent_view r)) (refusals.Sending r) (λ r a. a) refl h same sites wire
-comes_unsealed o steps held now old new number node id m (protecting.Journal k) h same sites wire = unsealed_by o steps held now old new number node id m (protecting.Journal k) (Outside (Journal k)) (refusals.Journal k) (λ r a. a) refl h same sites wire
-comes_unsealed o steps held now old new number node id m protecting.Keeper h same sites wire = unsealed_by o steps held now old new number node id m protecting.Keeper (Outside Keeper) refusals.Keeper (λ r a. a) refl h same sites wire
-comes_unsealed o steps held now old new number node id m protecting.NoMemory h same sites wire = gives_up_idly steps held now old new sites wire h.told
+    → new.sites ≡ old.sites → new.hands ≡ old.hands → new.wire ≡ old.wire → Comes steps held now old new number (Err (of_sending e))
+comes_unsealed o steps held now old new number node id m (protecting.Refused r) h same sites starts wire = unsealed_by o steps held now old new number node id m (protecting.Refused r) (Own (sent_view r)) (refusals.Sending r) (λ r a. a) refl h same sites starts wire
+comes_unsealed o steps held now old new number node id m (protecting.Journal k) h same sites starts wire = unsealed_by o steps held now old new number node id m (protecting.Journal k) (Outside (Journal k)) (refusals.Journal k) (λ r a. a) refl h same sites starts wire
+comes_unsealed o steps held now old new number node id m protecting.Keeper h same sites starts wire = unsealed_by o steps held now old new number node id m protecting.Keeper (Outside Keeper) refusals.Keeper (λ r a. a) refl h same sites starts wire
+comes_unsealed o steps held now old new number node id m protecting.NoMemory h same sites starts wire = gives_up_idly steps held now old new sites wire h.told
 
 -- ---- putting on the wire
 
@@ -163,6 +163,7 @@ idles_given old new number text t room is more = record {
   told = (is, refl);
   sites = ap sites_view (more.sites);
   wire = more.wire;
+  starts = more.hands;
   store = rw (more.store) (stays_itself old.store);
 }
 
@@ -175,6 +176,7 @@ idles_made steps old new number text t same is more = record {
   told = (is, refl);
   sites = ap sites_view (more.sites);
   wire = more.wire;
+  starts = more.hands;
   store = rw (more.store) (stays_itself old.store);
 }
 
@@ -188,5 +190,6 @@ idles_reported old number text node t r known good is = record {
   told = (is, refl);
   sites = refl;
   wire = refl;
+  starts = refl;
   store = stays_itself old.store;
 }

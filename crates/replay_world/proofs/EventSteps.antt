@@ -22,7 +22,7 @@ use Rattle.spec_script.specs.Choices.{Signer, Signing, Signs, SignerFails, Choic
 use Rattle.spec_script.specs.Altering.{altered}
 use Rattle.spec_script.specs.Refusals.{Refusal, NodeUnknown, NodeExists, WireUnknown, Beyond, KeysTwice, ContextNotFound, BadEvent, BadForm, BadReport, ContextUsed, SignerFailed}
 use Rattle.spec_script.specs.Events.{HandedContext, AddNode, AddContext, AddKeys, Send, Pass, Inject, Alter, Deliver, Restart, Reported}
-use Rattle.spec_script.specs.Steps.{State, Step, refuses, or_refuses, adds_node, does, injects, forwards, reports, delivers, sends_sealed, plmn_at, wire_at, known_node, known_document, new_node, is_full, room_on_wire, message_to_send, passes_on, policy_to_hold, has_read, room_for_record, context_with, opens, keys_up, puts, step}
+use Rattle.spec_script.specs.Steps.{State, Step, refuses, or_refuses, adds_node, restarts, injects, forwards, reports, delivers, sends_sealed, plmn_at, wire_at, known_node, known_document, new_node, is_full, room_on_wire, message_to_send, passes_on, policy_to_hold, has_read, room_for_record, context_with, opens, keys_up, puts, step}
 use Rattle.replay_world.specs.Fitting.{IsFit}
 use Rattle.replay_world.specs.Handing.{context_to_open, keys_may_come, opens_new, keys_new, puts_record}
 
@@ -76,8 +76,8 @@ unknown_receiver passes s f node wire h = unknown s node _ h
 pub unknown_restart : (passes : Passes) (s : State) (f : Choices) (node : List ℕ) → is_some (plmn_at s.sites node) ≡ false → step passes s f (Restart node) ≡ refuses s NodeUnknown
 unknown_restart passes s f node h = unknown s node _ h
 
-pub restarts : (passes : Passes) (s : State) (f : Choices) (node : List ℕ) → is_some (plmn_at s.sites node) ≡ true → step passes s f (Restart node) ≡ does s (codes "restart")
-restarts passes s f node h = known s node _ h
+pub restarts_node : (passes : Passes) (s : State) (f : Choices) (node : List ℕ) → is_some (plmn_at s.sites node) ≡ true → step passes s f (Restart node) ≡ restarts s node
+restarts_node passes s f node h = known s node _ h
 
 pub unknown_reported : (passes : Passes) (s : State) (f : Choices) (node : List ℕ) (t : Tree) → is_some (plmn_at s.sites node) ≡ false → step passes s f (Reported node t) ≡ refuses s NodeUnknown
 unknown_reported passes s f node t h = unknown s node _ h

@@ -1,14 +1,17 @@
 -- What is known of an event that a document is of: its names are in their grammar, and a document in it is less deep.
 use Rattle.std.proofs.Common.{◌≡◌, ◌≤◌, ℕ, List, Bool, true, false, ◌&&◌, cond, Option, Some, None, Result, Ok, Err, refl, subst, IsTrue, bytes_eq, codes, arith}
-use Rattle.std.specs.Prelude.{unwrap_or}
+use Rattle.std.specs.Prelude.{unwrap_or, option_and_then}
 use Rattle.spec_documents.specs.Tree.{Tree, null, truth, whole, words, items, no_items, members, Members, get_member, depth, members_depth}
 use Rattle.spec_documents.specs.Place.{◌>>=◌}
 use Rattle.spec_documents.specs.Text.{is_node_name}
 use Rattle.spec_messages.specs.Message.{wanted, any_text, text_in}
-use Rattle.spec_records.specs.RecordDocument.{ipx_in, are_ipx}
+use Rattle.spec_records.specs.RecordDocument.{ipx_in, are_ipx, suite_of}
 use Rattle.spec_records.proofs.NameLemmas.{passes, ipx_named}
 use Rattle.spec_documents.proofs.TreeLemmas.{got_low}
-use Rattle.spec_script.specs.Events.{Event, AddNode, AddContext, AddKeys, Send, Inject, Deliver, Restart, Pass, Alter, Reported, read_at, node_in, id_in, plmn_in, suite_in, any_value, whole_in, pair_in, first_in, answers_in, identity_in, passed_in, ops_in, pass_event, alter_event, reported_event, node_event, context_event, keys_event, send_event, inject_event, deliver_event, restart_event, event_named, event_of}
+use Rattle.spec_script.specs.Events.{Event, AddNode, AddContext, AddKeys, Send, Inject, Deliver, Restart, Pass, Alter, Reported, read_at, node_in, id_in, plmn_in, suite_in, any_value, whole_in, pair_in, first_in, answers_in, identity_in, passed_in, ops_in, pass_event, alter_event, reported_event, node_event, context_event, keys_event, send_event, inject_event, deliver_event, restart_event, event_named, event_of, StartWith, AnswerTo, FinishBy, Terminate, EndBy, start_event, answer_event, finish_event, terminate_event, ended_event}
+use Rattle.spec_sealing.specs.Header.{object_in}
+use Rattle.spec_handshake.specs.Documents.{capability_of, words_in, id_in as hand_id}
+use Rattle.spec_script.specs.Offers.{HandedOffer, offered_at, any_policy, offer_in}
 use Rattle.replay_world.specs.Worlds.{IsShallow}
 use Rattle.replay_world.specs.Fitting.{IsFit}
 
@@ -129,6 +132,66 @@ reported_fits ms low =
     let there = got_low (codes "document") document ms (is_some_of (get_member (codes "document") ms) (codes "document") document b) in
     ok_fits (Reported node document) (omega (arith, there, low))
 
+-- the intermediary of an offer
+record AllNamed (r : Result HandedOffer (List ℕ)) : Type 0 where
+  pub named : (x : HandedOffer) → r ≡ Ok x → are_ipx x.ipx ≡ true
+
+bind_named : {A : Type 0} (r : Result A (List ℕ)) (k : A → Result HandedOffer (List ℕ)) → ((x : A) → r ≡ Ok x → AllNamed (k x)) → AllNamed (r >>= k)
+bind_named (Ok x) k h = h x refl
+bind_named (Err d) k h = record { named = λ x is. cc }
+
+ok_named : (x : HandedOffer) → are_ipx x.ipx ≡ true → AllNamed (Ok x)
+ok_named x h = record { named = λ y is. let same : x ≡ y = cc in subst (λ (z : HandedOffer). are_ipx z.ipx ≡ true) same h }
+
+offer_named : (ms : Members) → AllNamed (offer_in ms)
+offer_named ms =
+    bind_named (wanted (option_and_then object_in (get_member (codes "offer") ms)) (codes "offer")) _ λ os a.
+    bind_named (offered_at hand_id (codes "id") os) _ λ id b.
+    bind_named (offered_at (words_in capability_of) (codes "capabilities") os) _ λ capabilities c.
+    bind_named (offered_at (words_in suite_of) (codes "suites") os) _ λ suites d.
+    bind_named (offered_at any_policy (codes "policy") os) _ λ policy e.
+    bind_named (offered_at ipx_in (codes "ipx") os) _ λ ipx f.
+    ok_named (record { id = id; capabilities = capabilities; suites = suites; policy = policy; ipx = ipx })
+    (ipx_named (get_member (codes "ipx") os) ipx (is_some_of (ipx_in (get_member (codes "ipx") os)) (codes "offer") ipx f))
+
+both_true : (a b : Bool) → a ≡ true → b ≡ true → IsTrue (a && b)
+both_true a b p q = rw (p, q) refl
+
+three_true : (a b c : Bool) → a ≡ true → b ≡ true → c ≡ true → IsTrue (a && (b && c))
+three_true a b c p q r = rw (p, q, r) refl
+
+start_fits : (ms : Members) → AllFit (start_event ms)
+start_fits ms =
+    bind_fits (read_at node_in (codes "node") ms) _ λ node a.
+    bind_fits (read_at node_in (codes "peer") ms) _ λ peer b.
+    bind_fits (offer_in ms) _ λ offer c.
+    ok_fits (StartWith node peer offer) (three_true _ _ _ (name_is (codes "node") ms node a) (name_is (codes "peer") ms peer b) ((offer_named ms).named offer c))
+
+answer_fits : (ms : Members) → AllFit (answer_event ms)
+answer_fits ms =
+    bind_fits (read_at node_in (codes "node") ms) _ λ node a.
+    bind_fits (read_at whole_in (codes "wire") ms) _ λ wire b.
+    bind_fits (offer_in ms) _ λ offer c.
+    ok_fits (AnswerTo node wire offer) (both_true _ _ (name_is (codes "node") ms node a) ((offer_named ms).named offer c))
+
+finish_fits : (ms : Members) → AllFit (finish_event ms)
+finish_fits ms =
+    bind_fits (read_at node_in (codes "node") ms) _ λ node a.
+    bind_fits (read_at whole_in (codes "wire") ms) _ λ wire b.
+    ok_fits (FinishBy node wire) tt
+
+terminate_fits : (ms : Members) → AllFit (terminate_event ms)
+terminate_fits ms =
+    bind_fits (read_at node_in (codes "node") ms) _ λ node a.
+    bind_fits (read_at id_in (codes "id") ms) _ λ id b.
+    ok_fits (Terminate node id) tt
+
+ended_fits : (ms : Members) → AllFit (ended_event ms)
+ended_fits ms =
+    bind_fits (read_at node_in (codes "node") ms) _ λ node a.
+    bind_fits (read_at whole_in (codes "wire") ms) _ λ wire b.
+    ok_fits (EndBy node wire) tt
+
 named_fits : (name : List ℕ) (ms : Members) → members_depth ms ≤ 126 → AllFit (event_named name ms)
 named_fits name ms low =
     cond_fits (bytes_eq name (codes "node")) _ _ (node_fits ms)
@@ -140,7 +203,12 @@ named_fits name ms low =
     (cond_fits (bytes_eq name (codes "restart")) _ _ (restart_fits ms)
     (cond_fits (bytes_eq name (codes "pass")) _ _ (pass_fits ms low)
     (cond_fits (bytes_eq name (codes "alter")) _ _ (alter_fits ms)
-    (cond_fits (bytes_eq name (codes "reported")) _ _ (reported_fits ms low) (err_fits (codes "do")))))))))))
+    (cond_fits (bytes_eq name (codes "reported")) _ _ (reported_fits ms low)
+    (cond_fits (bytes_eq name (codes "start")) _ _ (start_fits ms)
+    (cond_fits (bytes_eq name (codes "answer")) _ _ (answer_fits ms)
+    (cond_fits (bytes_eq name (codes "finish")) _ _ (finish_fits ms)
+    (cond_fits (bytes_eq name (codes "terminate")) _ _ (terminate_fits ms)
+    (cond_fits (bytes_eq name (codes "ended")) _ _ (ended_fits ms) (err_fits (codes "do"))))))))))))))))
 
 tree_fits : (t : Tree) → depth t ≤ 127 → AllFit (event_of t)
 tree_fits null low = err_fits (codes "do")

@@ -10,7 +10,7 @@ use Rattle.context_store.specs.Changes.{Keeps}
 use Rattle.spec_exchange.specs.Outside.{Choice, Reading, Read, ReadFails, BadRecord, with_put}
 use Rattle.n32_outside.specs.Causes.{Rose}
 use Rattle.spec_script.specs.Events.{line_event}
-use Rattle.spec_script.specs.Refusals.{Syntax, OtherNumber, BadEvent, NodeUnknown, NodeExists, WireUnknown, Beyond, KeysTwice, ContextNotFound, BadMessage, DeepBody, BadPolicy, ContextUsed, BadForm, BadReport, OfSending, OfReceiving, OfOutside, SignerFailed}
+use Rattle.spec_script.specs.Refusals.{Syntax, OtherNumber, BadEvent, NodeUnknown, NodeExists, WireUnknown, Beyond, KeysTwice, ContextNotFound, BadMessage, DeepBody, BadPolicy, ContextUsed, BadForm, BadReport, OfSending, OfReceiving, OfOutside, SignerFailed, OfHandshake}
 use Rattle.spec_exchange.specs.EntryRefusals as entries
 use Rattle.spec_exchange.specs.EntryChecks.{Claim, Fails, Verifying, verdict_of}
 use Rattle.spec_exchange.specs.AcceptRefusals as receiving
@@ -19,8 +19,9 @@ use Rattle.entry_checks.specs.Verifiers.{Meaning, verifying}
 use Rattle.spec_script.specs.Choices.{Signing, Signs, SignerFails}
 use Rattle.spec_script.specs.Output.{has_refusal, is_signer_refusal, is_verifier_refusal}
 use Rattle.replay_world.specs.Outsiders.{OfSigner, Told, Acting, IsMeant, IsVerified, IsActing, Acted, by, line_steps}
+use Rattle.spec_handshake.specs.Starts.{Start}
 use Rattle.spec_script.specs.Steps as spec
-use Rattle.spec_script.specs.Steps.{State, Answer, Fine, OnWire, Sends, Forwards, Delivers, Reports, Step, Refuses, after, with_sent, line_step}
+use Rattle.spec_script.specs.Steps.{State, Answer, Fine, OnWire, Sends, Forwards, Delivers, Reports, Step, Refuses, after, with_sent, line_step, Opens, OpensAs, EndsTls}
 use Rattle.replay_world.specs.Worlds.{sites_view, state_of, TellsRecords, StepsOver, Steps}
 use Rattle.replay_world.specs.Stepping.{StepBy, Makes, TellsText, LineComes}
 use Rattle.replay_world.specs.declared.world.World.{World}
@@ -60,10 +61,12 @@ record Leaves (texts : List (List ℕ)) (now : Option (List (List ℕ))) (before
   pub told : TellsText before after_ number text r.answer
   pub sites : sites_view new.sites ≡ r.sites
   pub sent : new.wire ≡ with_sent old.wire r.sent
+  pub starts : new.hands ≡ r.starts
   pub kept : Keeps (Some texts) now r.put
 
-state_is : (new : World) (sites : List spec.Site) (wire : List Tree) (records : List Record) → sites_view new.sites ≡ sites → new.wire ≡ wire → state_of new records ≡ record { sites = sites; wire = wire; records = records }
-state_is new sites wire records p q = rw (p, q) refl
+state_is : (new : World) (sites : List spec.Site) (wire : List Tree) (records : List Record) (starts : List Start) → sites_view new.sites ≡ sites → new.wire ≡ wire → new.hands ≡ starts
+    → state_of new records ≡ record { sites = sites; wire = wire; records = records; starts = starts }
+state_is new sites wire records starts p q t = rw (p, q, t) refl
 
 -- one refusal tells of the signer
 signer_alone : (a : Answer) → has_refusal is_signer_refusal a ≡ true → a ≡ Refuses SignerFailed
@@ -73,6 +76,9 @@ signer_alone (Sends x n) h = cc
 signer_alone (Forwards t n) h = cc
 signer_alone (Delivers d) h = cc
 signer_alone (Reports r) h = cc
+signer_alone (Opens t n id) h = cc
+signer_alone (OpensAs id) h = cc
+signer_alone EndsTls h = cc
 signer_alone (Refuses Syntax) h = cc
 signer_alone (Refuses OtherNumber) h = cc
 signer_alone (Refuses (BadEvent member)) h = cc
@@ -91,6 +97,7 @@ signer_alone (Refuses BadReport) h = cc
 signer_alone (Refuses (OfSending refusal)) h = cc
 signer_alone (Refuses (OfReceiving refusal report)) h = cc
 signer_alone (Refuses (OfOutside fault)) h = cc
+signer_alone (Refuses (OfHandshake refusal)) h = cc
 signer_alone (Refuses SignerFailed) h = refl
 
 -- a signing that fails is meant only where the count rose
@@ -111,6 +118,9 @@ verifier_alone (Sends x n) h = cc
 verifier_alone (Forwards t n) h = cc
 verifier_alone (Delivers d) h = cc
 verifier_alone (Reports r) h = cc
+verifier_alone (Opens t n id) h = cc
+verifier_alone (OpensAs id) h = cc
+verifier_alone EndsTls h = cc
 verifier_alone (Refuses Syntax) h = cc
 verifier_alone (Refuses OtherNumber) h = cc
 verifier_alone (Refuses (BadEvent member)) h = cc
@@ -137,6 +147,7 @@ verifier_alone (Refuses (OfReceiving (receiving.OfEntry number entries.BadSignat
 verifier_alone (Refuses (OfReceiving (receiving.OfEntry number entries.OtherTag) report)) h = cc
 verifier_alone (Refuses (OfReceiving (receiving.OfEntry number (entries.NotAllowed op why)) report)) h = cc
 verifier_alone (Refuses (OfOutside fault)) h = cc
+verifier_alone (Refuses (OfHandshake refusal)) h = cc
 verifier_alone (Refuses SignerFailed) h = cc
 
 -- a verifying that fails at an entry is meant only where the count rose
@@ -162,7 +173,7 @@ steps_from texts before after_ old new records x f number line text meant are h 
       choice = by x f;
       meant = meant;
       text_is = h.told.text_is;
-      state_is = state_is new r.sites (with_sent old.wire r.sent) (with_put records r.put) h.sites h.sent;
+      state_is = state_is new r.sites (with_sent old.wire r.sent) (with_put records r.put) r.starts h.sites h.sent h.starts;
       held_is = tells_put texts after_.held records r.put are h.kept;
       failed = h.told.failed;
       unsigned = λ e. rose_of before.others.signer after_.others.signer x.signer meant.signer (line_signs before.others.screen (state_of old records) (by x f) line (signer_alone r.answer e));
@@ -172,7 +183,7 @@ steps_from texts before after_ old new records x f number line text meant are h 
 
 leaves_from : (texts : List (List ℕ)) (now : Option (List (List ℕ))) (before after_ : ℕ) (old new : World) (number : ℕ) (text : List ℕ) (rs : List Record) (r : Step)
     → Makes (TellsText before after_ number text) (Some texts) now old.wire new rs r → Leaves texts now before after_ old new number text r
-leaves_from texts now before after_ old new number text rs r h = record { told = h.told; sites = h.sites; sent = h.sent; kept = h.change.told }
+leaves_from texts now before after_ old new number text rs r h = record { told = h.told; sites = h.sites; sent = h.sent; starts = h.starts; kept = h.change.told }
 
 -- whichever records a step went by, it is one over those that are held
 over_held : (texts : List (List ℕ)) (before after_ : Told) (old new : World) (records : List Record) (x : Acting) (number : ℕ) (line text : List ℕ)
@@ -182,7 +193,7 @@ over_held texts before after_ old new records x number line text meant are h = b
   where
     unread : (h.choice.reading ≡ Read → ⊥) → StepsOver before.others.screen before after_ old new texts records number line text
     unread not_read =
-        let same = line_same (sites_view old.sites) old.wire h.records records before.others.screen (by x h.choice) not_read (line_event line) in
+        let same = line_same (sites_view old.sites) old.wire old.hands h.records records before.others.screen (by x h.choice) not_read (line_event line) in
         steps_from texts before after_ old new records x h.choice number line text meant are
         (subst (λ (r : Step). Leaves texts after_.held before.keeper_faults after_.keeper_faults old new number text r) same.is (leaves_from texts after_.held before.keeper_faults after_.keeper_faults old new number text h.records (line_step before.others.screen (state_of old h.records) (by x h.choice) line) h.leaves))
         h.chosen.bad

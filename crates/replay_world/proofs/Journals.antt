@@ -10,10 +10,16 @@ use Rattle.spec_exchange.specs.EntryRefusals.{VerifierFailed}
 use Rattle.spec_exchange.proofs.EntryLemmas.{FailsAt, accepting_fails}
 use Rattle.spec_exchange.specs.Screens.{Passes}
 use Rattle.spec_exchange.specs.SendingRefusals as sending
-use Rattle.spec_exchange.specs.Outside.{Journal, Cause, Own, Outside, Reading, Read, ReadFails, BadRecord, Putting, Kept, Lost, KeptUntold, Outcome, behind_reading, or_refusal}
+use Rattle.spec_exchange.specs.Outside.{Journal, Cause, Own, Outside, Reading, Read, ReadFails, BadRecord, Putting, Kept, Lost, KeptUntold, Outcome, behind_reading, or_refusal, Keeper}
 use Rattle.spec_exchange.specs.Outside as outside
 use Rattle.spec_exchange.specs.FirstFailed.{Delivery}
 use Rattle.spec_exchange.specs.Calls.{Sealed, delivered_record, sent_record, protected}
+use Rattle.spec_handshake.specs.Documents.{Document, Terminates}
+use Rattle.spec_handshake.specs.Refusals as handshake
+use Rattle.spec_handshake.specs.Starts.{Start}
+use Rattle.spec_handshake.specs.Calls as calls
+use Rattle.spec_script.specs.Offers.{offer_of}
+use Rattle.spec_script.proofs.HandLemmas.{IsTold, forwards_told, replied_told, finished_told}
 use Rattle.spec_script.specs.Refusals.{Refusal, DeepBody, OfReceiving, OfOutside, SignerFailed}
 use Rattle.spec_script.specs.Messages.{shallow_message}
 use Rattle.spec_script.specs.Choices.{Signing, Signs, SignerFails, Choices}
@@ -23,8 +29,8 @@ use Rattle.serde_json.specs.Data.{Data}
 use Rattle.spec_documents.specs.Reading.{tree_from}
 use Rattle.spec_documents.specs.Place as place
 use Rattle.spec_script.specs.LineTree.{text_value, value_tree, or_other_number}
-use Rattle.spec_script.specs.Events.{Event, AddNode, AddContext, AddKeys, Send, Inject, Deliver, Restart, Pass, Alter, Reported, event_of, or_bad_event, line_event}
-use Rattle.spec_script.specs.Steps.{State, Step, Refuses, refuses, or_refuses, puts, sends_sealed, sealed_answer, delivers, delivery_answer, has_read, outgoing_of, message_to_send, passes_on, opens, keys_up, step, step_with, line_step}
+use Rattle.spec_script.specs.Events.{Event, AddNode, AddContext, AddKeys, Send, Inject, Deliver, Restart, Pass, Alter, Reported, event_of, or_bad_event, line_event, StartWith, AnswerTo, FinishBy, Terminate, EndBy}
+use Rattle.spec_script.specs.Steps.{State, Step, Refuses, refuses, or_refuses, puts, sends_sealed, sealed_answer, delivers, delivery_answer, has_read, outgoing_of, message_to_send, passes_on, opens, keys_up, step, step_with, line_step, Answer, shakes}
 
 -- ---- calls
 
@@ -208,6 +214,41 @@ passed_tells : (s : State) (f : Choices) (signing : Signing) → f.signer ≡ si
 passed_tells s f (Signs g) is ipx operations t = step_bind s f _ _ (mute_or_refused _ _ λ member. refl) λ d. done_tells f _ λ e is. cc
 passed_tells s f SignerFails is ipx operations t = step_bind s f _ _ (mute_or_refused _ _ λ member. refl) λ parts. record { of = λ k e. cc; signer = λ e. is; verifier = λ n report e. cc }
 
+-- once the store was read, a call of the handshake names no record
+abbrev Unread : {T : Type 0} → Outcome handshake.Refusal T → Type 0
+Unread o = (k : ℕ) → o.result ≡ Err (Outside (Journal k)) → ⊥
+
+unread_puts : {T : Type 0} (p : Putting) (r : Record) (x : T) → Unread (outside.puts p r x)
+unread_puts Kept r x k h = cc
+unread_puts Lost r x k h = cc
+unread_puts KeptUntold r x k h = cc
+
+unread_each : {X T : Type 0} (r : Result X handshake.Refusal) (c : X → Outcome handshake.Refusal T) → ((x : X) → Unread (c x)) → Unread (or_refusal r c)
+unread_each (Ok x) c h = h x
+unread_each (Err d) c h = λ k e. cc
+
+unread_reply : (p : Putting) (x : calls.Replied) → Unread (calls.put_reply p x)
+unread_reply p (calls.Chose d) = λ k e. cc
+unread_reply p (calls.OpenedBy d x) = unread_puts p _ _
+
+unread_finished : (p : Putting) (x : calls.Finished) → Unread (calls.put_finished p x)
+unread_finished p (calls.Next d) = λ k e. cc
+unread_finished p (calls.OpenedAs x) = unread_puts p _ _
+unread_finished p calls.EndedTls = λ k e. cc
+
+shaken_by : {T : Type 0} (s : State) (f : Choices) (told : T → Answer) (made : T → Option Document) (starts : List Start) (put : Option Record) (r : Result T (Cause handshake.Refusal))
+    → ((x : T) → IsTold s (told x) (made x)) → ((k : ℕ) → r ≡ Err (Outside (Journal k)) → ⊥) → Tells f (shakes s told made starts (record { result = r; put = put }))
+shaken_by s f told made starts put (Ok x) is unread = done_tells f _ (is x).refused
+shaken_by s f told made starts put (Err (Own d)) is unread = record { of = λ k e. cc; signer = λ e. cc; verifier = λ n report e. cc }
+shaken_by s f told made starts put (Err (Outside (Journal n))) is unread = absurd (unread n refl)
+shaken_by s f told made starts put (Err (Outside Keeper)) is unread = record { of = λ k e. cc; signer = λ e. cc; verifier = λ n report e. cc }
+
+shaken_tells : {T : Type 0} (s : State) (f : Choices) (told : T → Answer) (made : T → Option Document) (starts : List Start) (reading : Reading) (o : Outcome handshake.Refusal T) → f.keeper.reading ≡ reading
+    → ((x : T) → IsTold s (told x) (made x)) → Unread o → Tells f (shakes s told made starts (behind_reading reading o))
+shaken_tells s f told made starts Read o at is unread = shaken_by s f told made starts o.put o.result is unread
+shaken_tells s f told made starts ReadFails o at is unread = record { of = λ k e. cc; signer = λ e. cc; verifier = λ n report e. cc }
+shaken_tells s f told made starts (BadRecord n) o at is unread = record { of = λ k e. cc; signer = λ e. cc; verifier = λ n report e. cc }
+
 event_tells : (passes : Passes) (s : State) (f : Choices) (e : Event) → Tells f (step passes s f e)
 event_tells passes s f (AddNode node plmn) = step_bind s f _ _ (mute_unless _ _ refl) λ a. done_tells f _ λ e is. cc
 event_tells passes s f (AddContext x) = step_bind s f _ _ (mute_wanted _ _ refl) λ plmn. step_bind s f _ _ (mute_or_refused _ _ λ k. refl) λ policy. opens_tells s f _
@@ -219,6 +260,16 @@ event_tells passes s f (Alter number ops) = step_bind s f _ _ (mute_wanted _ _ r
 event_tells passes s f (Deliver node number) = step_bind s f _ _ (mute_wanted _ _ refl) λ plmn. step_bind s f _ _ (mute_wanted _ _ refl) λ t. delivery_tells passes s f node t
 event_tells passes s f (Restart node) = step_bind s f _ _ (mute_wanted _ _ refl) λ plmn. done_tells f _ λ e is. cc
 event_tells passes s f (Reported node t) = step_bind s f _ _ (mute_wanted _ _ refl) λ plmn. step_bind s f _ _ (mute_or_refused _ _ λ none. refl) λ r. done_tells f _ λ e is. cc
+event_tells passes s f (StartWith node peer x) = step_bind s f _ _ (mute_wanted _ _ refl) λ plmn. step_bind s f _ _ (mute_unless _ _ refl) λ room. step_bind s f _ _ (mute_or_refused _ _ λ k. refl) λ policy.
+    shaken_tells s f _ _ _ f.keeper.reading _ refl (forwards_told s) (unread_each (calls.begins s.records node (offer_of x policy)) _ λ d. unread_puts f.keeper.putting _ d)
+event_tells passes s f (AnswerTo node number x) = step_bind s f _ _ (mute_wanted _ _ refl) λ plmn. step_bind s f _ _ (mute_wanted _ _ refl) λ t. step_bind s f _ _ (mute_unless _ _ refl) λ room. step_bind s f _ _ (mute_or_refused _ _ λ k. refl) λ policy.
+    shaken_tells s f _ _ _ f.keeper.reading _ refl (replied_told s) (unread_each (calls.replies s.records node plmn (offer_of x policy) t) _ (unread_reply f.keeper.putting))
+event_tells passes s f (FinishBy node number) = step_bind s f _ _ (mute_wanted _ _ refl) λ plmn. step_bind s f _ _ (mute_wanted _ _ refl) λ t. step_bind s f _ _ (mute_unless _ _ refl) λ room.
+    shaken_tells s f _ _ _ f.keeper.reading _ refl (finished_told s) (unread_each (calls.finishes s.records s.starts node plmn t) _ (unread_finished f.keeper.putting))
+event_tells passes s f (Terminate node id) = step_bind s f _ _ (mute_wanted _ _ refl) λ plmn. step_bind s f _ _ (mute_unless _ _ refl) λ room.
+    shaken_tells s f _ _ _ f.keeper.reading _ refl (λ c. forwards_told s c.document) (unread_each (calls.closes s.records node id Terminates) _ λ c. unread_puts f.keeper.putting _ c)
+event_tells passes s f (EndBy node number) = step_bind s f _ _ (mute_wanted _ _ refl) λ plmn. step_bind s f _ _ (mute_wanted _ _ refl) λ t. step_bind s f _ _ (mute_unless _ _ refl) λ room.
+    shaken_tells s f _ _ _ f.keeper.reading _ refl (λ c. forwards_told s c.document) (unread_each (calls.closes_by s.records node t) _ λ c. unread_puts f.keeper.putting _ c)
 
 -- ---- lines
 

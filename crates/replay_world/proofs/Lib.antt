@@ -16,3 +16,7 @@ pub mod Verified
 pub mod ReportNumbers
 pub mod Deliveries
 pub mod Altering
+pub mod HandSteps
+pub mod Handshakes
+pub mod HandSeen
+pub mod HandEvents

@@ -4,15 +4,16 @@ use Rattle.std.proofs.lemmas.Slice.Eq.{bytes_eq-Decides}
 use Rattle.std.proofs.lemmas.List.{map-append}
 use Rattle.context_store.specs.Stores.{Stored}
 use Rattle.spec_script.specs.Events.{AddNode, Restart}
+use Rattle.spec_handshake.specs.Starts.{without_node}
 use Rattle.spec_script.specs.Steps as spec
-use Rattle.spec_script.specs.Steps.{Fine, plmn_at, adds_node, does, step}
+use Rattle.spec_script.specs.Steps.{Fine, plmn_at, adds_node, restarts, step}
 use Rattle.spec_script.specs.Answers.{answer_text}
 use Rattle.replay_world.specs.Worlds.{site_view, sites_view, state_of, AreDistinct}
 use Rattle.replay_world.specs.Outsiders.{all_pass, idle, by, unasked}
 use Rattle.replay_world.proofs.Parts.{StoreStays, Idles}
 use Rattle.replay_world.specs.declared.world.Site.{Site}
 use Rattle.replay_world.specs.declared.world.World.{World}
-use Rattle.replay_world.proofs.EventSteps.{node_is_new, restarts}
+use Rattle.replay_world.proofs.EventSteps.{node_is_new, restarts_node}
 
 -- ---- no node stands twice
 
@@ -55,15 +56,16 @@ pub sites_more : (old new : List Site) (site : Site) → new ≡ old ++ site ∷
 sites_more old new site more = ap sites_view more ∙ map-append site_view old (site ∷ [])
 
 pub idles_added : (old new : World) (number : ℕ) (text : List ℕ) (site : Site)
-    → is_some (plmn_at (sites_view old.sites) site.node) ≡ false → text ≡ answer_text number (Fine (codes "node")) → new.sites ≡ old.sites ++ site ∷ [] → new.wire ≡ old.wire → StoreStays old.store new.store
+    → is_some (plmn_at (sites_view old.sites) site.node) ≡ false → text ≡ answer_text number (Fine (codes "node")) → new.sites ≡ old.sites ++ site ∷ [] → new.hands ≡ old.hands → new.wire ≡ old.wire → StoreStays old.store new.store
     → Idles (unasked (AddNode site.node site.plmn)) old new number (Ok text)
-idles_added old new number text site unknown is sites wire store = record {
+idles_added old new number text site unknown is sites starts wire store = record {
   step = adds_node (state_of old []) site.node site.plmn;
   same = λ records f. node_is_new all_pass (state_of old records) (by idle f) site.node site.plmn unknown;
   puts_none = refl;
   told = (is, refl);
   sites = sites_more old.sites new.sites site sites;
   wire = wire;
+  starts = starts;
   store = store;
 }
 
@@ -72,14 +74,15 @@ pub forgotten : (old new : Stored) → new.records ≡ old.records → new.fresh
 forgotten old new records stale = record { fresh = λ e. cc; records = records }
 
 pub idles_restarted : (old new : World) (number : ℕ) (text node : List ℕ)
-    → is_some (plmn_at (sites_view old.sites) node) ≡ true → text ≡ answer_text number (Fine (codes "restart")) → new.sites ≡ old.sites → new.wire ≡ old.wire → StoreStays old.store new.store
+    → is_some (plmn_at (sites_view old.sites) node) ≡ true → text ≡ answer_text number (Fine (codes "restart")) → new.sites ≡ old.sites → new.hands ≡ without_node node old.hands → new.wire ≡ old.wire → StoreStays old.store new.store
     → Idles (unasked (Restart node)) old new number (Ok text)
-idles_restarted old new number text node known is sites wire store = record {
-  step = does (state_of old []) (codes "restart");
-  same = λ records f. restarts all_pass (state_of old records) (by idle f) node known;
+idles_restarted old new number text node known is sites starts wire store = record {
+  step = restarts (state_of old []) node;
+  same = λ records f. restarts_node all_pass (state_of old records) (by idle f) node known;
   puts_none = refl;
   told = (is, refl);
   sites = ap sites_view sites;
   wire = wire;
+  starts = starts;
   store = store;
 }

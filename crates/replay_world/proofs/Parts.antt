@@ -57,7 +57,7 @@ by_fresh steps later held old P fresh same h =
 
 -- the world, once its store is read
 abbrev pub with_store : World → Stored → World
-with_store w s = record { sites = w.sites; wire = w.wire; wire_bytes = w.wire_bytes; store = s }
+with_store w s = record { sites = w.sites; wire = w.wire; wire_bytes = w.wire_bytes; store = s; hands = w.hands }
 
 -- a store is read: the records that are held, or those that a fresh one has
 pub record WasRead (held : Option (List (List ℕ))) (old new : Stored) : Type 0 where
@@ -134,6 +134,7 @@ pub record Idles (steps : State → Choice → Step) (old new : World) (number :
   pub told : Tells number result step.answer
   pub sites : sites_view new.sites ≡ step.sites
   pub wire : new.wire ≡ with_sent old.wire step.sent
+  pub starts : new.hands ≡ step.starts
   pub store : StoreStays old.store new.store
 
 -- the same, or want of memory, which leaves the world as it was
@@ -142,9 +143,9 @@ ComesIdly steps old new number (Err unanswered.NoMemory) = new ≡ old
 ComesIdly steps old new number result = Idles steps old new number result
 
 idle_by : (steps : State → Choice → Step) (Told : Answer → Type 0) (held now : Option (List (List ℕ))) (old new : World) (r : Step)
-    → ((records : List Record) (f : Choice) → steps (state_of old records) f ≡ r) → r.put ≡ None → Told r.answer → sites_view new.sites ≡ r.sites → new.wire ≡ with_sent old.wire r.sent
+    → ((records : List Record) (f : Choice) → steps (state_of old records) f ≡ r) → r.put ≡ None → Told r.answer → sites_view new.sites ≡ r.sites → new.wire ≡ with_sent old.wire r.sent → new.hands ≡ r.starts
     → StoreStays old.store new.store → Stays held now → IsConsistent held old.store → StepBy steps held old (Makes Told held now old.wire new)
-idle_by steps Told held now old new r same none told sites wire store stays consistent = record {
+idle_by steps Told held now old new r same none told sites wire starts store stays consistent = record {
   choice = idle_choice old.store.fresh;
   records = old.store.records;
   chosen = chosen_idly held old.store old.store.fresh refl consistent;
@@ -152,6 +153,7 @@ idle_by steps Told held now old new r same none told sites wire store stays cons
     told = told;
     sites = sites;
     sent = wire;
+    starts = starts;
     change = subst (λ (o : Option Record). Change held now old.store.records new.store o) (sym none) (record { told = stays; kept = λ e. store.records });
   });
 }
@@ -159,9 +161,9 @@ idle_by steps Told held now old new r same none told sites wire store stays cons
 pub comes_idly : (steps : State → Choice → Step) (held now : Option (List (List ℕ))) (old new : World) (number : ℕ) (result : Result (List ℕ) Unanswered)
     → Stays held now → IsConsistent held old.store → ComesIdly steps old new number result → Comes steps held now old new number result
 comes_idly steps held now old new number (Ok text) stays consistent h =
-    idle_by steps (Tells number (Ok text)) held now old new h.step h.same h.puts_none h.told h.sites h.wire h.store stays consistent
+    idle_by steps (Tells number (Ok text)) held now old new h.step h.same h.puts_none h.told h.sites h.wire h.starts h.store stays consistent
 comes_idly steps held now old new number (Err (unanswered.Refused refusal)) stays consistent h =
-    idle_by steps (Tells number (Err (unanswered.Refused refusal))) held now old new h.step h.same h.puts_none h.told h.sites h.wire h.store stays consistent
+    idle_by steps (Tells number (Err (unanswered.Refused refusal))) held now old new h.step h.same h.puts_none h.told h.sites h.wire h.starts h.store stays consistent
 comes_idly steps held now old new number (Err unanswered.NoMemory) stays consistent h = record {
   sites = ap (λ (w : World). sites_view w.sites) h;
   wire = ap (λ (w : World). w.wire) h;
@@ -182,6 +184,7 @@ idles_refused steps old number refusal same = record {
   told = refl;
   sites = refl;
   wire = refl;
+  starts = refl;
   store = stays_itself old.store;
 }
 

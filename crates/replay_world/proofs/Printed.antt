@@ -4,7 +4,7 @@ use Rattle.n32_outside.specs.Causes.{Rose}
 use Rattle.n32_values.specs.declared.memory.NoMemory.{NoMemory}
 use Rattle.spec_exchange.specs.Outside.{Choice}
 use Rattle.spec_script.specs.Refusals as script
-use Rattle.spec_script.specs.Steps.{State, Answer, Step, Fine, OnWire, Sends, Forwards, Delivers, Reports, Refuses, after, line_step}
+use Rattle.spec_script.specs.Steps.{State, Answer, Step, Fine, OnWire, Sends, Forwards, Delivers, Reports, Refuses, after, line_step, Opens, OpensAs, EndsTls}
 use Rattle.spec_script.specs.Answers.{answer_text}
 use Rattle.spec_script.specs.Output.{has_refusal, is_keeper_refusal}
 use Rattle.script_lines.specs.View.{refusal_view}
@@ -26,6 +26,9 @@ no_refusal (Sends x n) h = refl
 no_refusal (Forwards t n) h = refl
 no_refusal (Reports r) h = refl
 no_refusal (Delivers d) h = refl
+no_refusal (Opens t n id) h = refl
+no_refusal (OpensAs id) h = refl
+no_refusal EndsTls h = refl
 no_refusal (Refuses e) h = cc
 
 -- one refusal tells of the keeper
@@ -50,6 +53,7 @@ keeper_alone (refusals.Journal number) h = cc
 keeper_alone refusals.Keeper h = refl
 keeper_alone (refusals.Sending refusal) h = cc
 keeper_alone (refusals.Receiving refusal report) h = cc
+keeper_alone (refusals.Handshake refusal) h = cc
 
 -- a step with the same told otherwise
 told_so : (steps : State → Choice → Step) (held now : Option (List (List ℕ))) (old new : World) (P Q : Answer → Type 0) → ((a : Answer) → P a → Q a)
@@ -58,7 +62,7 @@ told_so steps held now old new P Q f h = record {
   choice = h.choice;
   records = h.records;
   chosen = h.chosen;
-  leaves = record { told = f (steps (state_of old h.records) h.choice).answer h.leaves.told; sites = h.leaves.sites; sent = h.leaves.sent; change = h.leaves.change };
+  leaves = record { told = f (steps (state_of old h.records) h.choice).answer h.leaves.told; sites = h.leaves.sites; sent = h.leaves.sent; starts = h.leaves.starts; change = h.leaves.change };
 }
 
 pub printed_ok : (passes : Passes) (x : Acting) (held now : Option (List (List ℕ))) (before after_ : ℕ) (old new : World) (number : ℕ) (line text : List ℕ)

@@ -2,7 +2,7 @@
 use Rattle.std.specs.Prelude.{⊤, ◌&&◌, IsTrue}
 use Rattle.spec_documents.specs.Text.{is_node_name}
 use Rattle.spec_records.specs.RecordDocument.{are_ipx}
-use Rattle.spec_script.specs.Events.{Event, AddNode, AddContext, AddKeys, Send, Inject, Deliver, Restart, Pass, Alter, Reported}
+use Rattle.spec_script.specs.Events.{Event, AddNode, AddContext, AddKeys, Send, Inject, Deliver, Restart, Pass, Alter, Reported, StartWith, AnswerTo, FinishBy, Terminate, EndBy}
 use Rattle.replay_world.specs.Worlds.{IsShallow}
 
 -- the names that a record takes over are in their grammar, and documents that are kept whole are shallow
@@ -17,3 +17,8 @@ IsFit (Restart node) = ⊤
 IsFit (Pass ipx wire operations) = IsShallow operations
 IsFit (Alter wire operations) = ⊤
 IsFit (Reported node document) = IsShallow document
+IsFit (StartWith node peer offer) = IsTrue (is_node_name node && (is_node_name peer && are_ipx offer.ipx))
+IsFit (AnswerTo node wire offer) = IsTrue (is_node_name node && are_ipx offer.ipx)
+IsFit (FinishBy node wire) = ⊤
+IsFit (Terminate node id) = ⊤
+IsFit (EndBy node wire) = ⊤

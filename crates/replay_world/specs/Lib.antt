@@ -7,3 +7,4 @@ pub mod Handling
 pub mod Sending
 pub mod Handing
 pub mod Fitting
+pub mod Shaking

@@ -44,6 +44,7 @@ pub record Makes (Told : Answer → Type 0) (held now : Option (List (List ℕ))
   pub told : Told r.answer
   pub sites : sites_view new.sites ≡ r.sites
   pub sent : new.wire ≡ with_sent wire r.sent
+  pub starts : new.hands ≡ r.starts
   pub change : Change held now records new.store r.put
 
 -- what is held may have the step's record more

@@ -9,6 +9,7 @@ pub record HasMore (old new : World) (t : Tree) : Type 0 where
   pub wire : new.wire ≡ old.wire ++ t ∷ []
   pub bytes : new.wire_bytes ≡ wire_bytes new.wire
   pub sites : new.sites ≡ old.sites
+  pub hands : new.hands ≡ old.hands
   pub store : new.store ≡ old.store
 
 -- where memory was refused the world is as it was

@@ -27,7 +27,7 @@ sites_view sites = map site_view sites
 
 -- the state of a world over these records
 abbrev pub state_of : World → List Record → State
-state_of w records = record { sites = sites_view w.sites; wire = w.wire; records = records }
+state_of w records = record { sites = sites_view w.sites; wire = w.wire; records = records; starts = w.hands }
 
 -- no node stands twice
 abbrev pub AreDistinct : List spec.Site → Type 0

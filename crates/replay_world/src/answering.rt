@@ -11,6 +11,7 @@ ghost use Rattle.replay_world.specs.Handling.{Handles};
 ghost use Rattle.replay_world.specs.Fitting.{IsFit};
 
 use crate::handing_in::{hand_in_context, hand_in_keys};
+use crate::handshaking::{answer, ended, finish, start, terminate};
 use crate::passing::{alter, pass};
 use crate::reading::read_line_event;
 use crate::reporting::reported;
@@ -68,6 +69,15 @@ fn answer_event<K: Keeper, G: Signer, V: Verifier, R: ScreenRule, F: Fn(&Message
         ),
         Event::Restart { node } => restart(alloc, world, number, &node),
         Event::Reported { node, document } => reported(alloc, world, number, &node, document),
+        Event::Start { node, peer, offer } => {
+            start(alloc, world, keeper, number, &node, &peer, offer)
+        }
+        Event::Answer { node, wire, offer } => {
+            answer(alloc, world, keeper, number, &node, &wire, offer)
+        }
+        Event::Finish { node, wire } => finish(alloc, world, keeper, number, &node, &wire),
+        Event::Terminate { node, id } => terminate(alloc, world, keeper, number, &node, id),
+        Event::Ended { node, wire } => ended(alloc, world, keeper, number, &node, &wire),
     }
 }
 

@@ -4,6 +4,7 @@
 mod answering;
 mod faults;
 mod handing_in;
+mod handshaking;
 mod passing;
 mod reading;
 mod reporting;

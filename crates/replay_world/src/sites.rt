@@ -1,5 +1,5 @@
 // The nodes: added, looked up and begun anew.
-ghost use Rattle.std.specs.Prelude.{◌≡◌, is_some};
+ghost use Rattle.std.specs.Prelude.{◌≡◌, is_some, option_map};
 ghost use Rattle.spec_script.specs.Events.{AddNode, Restart};
 ghost use Rattle.spec_script.specs.Steps as spec;
 ghost use Rattle.replay_world.specs.Outsiders.{unasked};
@@ -23,6 +23,18 @@ pub(crate) fn is_known(sites: &SiteList, node: &Text) -> bool
     false
 }
 
+/// The network of a node, where there is one of this name.
+pub(crate) fn plmn_of<'a>(sites: &'a SiteList, node: &Text) -> Option<&'a PlmnId>
+    ensures { option_map (λ p. p.now) result ≡ spec.plmn_at (sites_view sites.now) node.now }
+{
+    for site in sites.as_slice() {
+        if site.node.as_str() == node.as_str() {
+            return Some(&site.plmn);
+        }
+    }
+    None
+}
+
 /// A node begins to work.
 pub(crate) fn add_node(
     alloc: Global,
@@ -42,7 +54,7 @@ pub(crate) fn add_node(
     Ok(text)
 }
 
-/// A node begins anew: the records are read again at the next event that asks for them.
+/// A node begins anew: the records are read again at the next event that asks for them, and its starts are dropped.
 pub(crate) fn restart(
     alloc: Global,
     world: &mut World,
@@ -57,5 +69,6 @@ pub(crate) fn restart(
     }
     let text = done_text(alloc, number, "restart")?;
     world.store.forget();
+    world.hands.drop_node(node);
     Ok(text)
 }

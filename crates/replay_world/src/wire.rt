@@ -7,8 +7,8 @@ ghost use Rattle.script_lines.specs.AnswerTexts.{document_answer};
 ghost use Rattle.replay_world.specs.Wires.{GoesOn};
 
 use crate::world::World;
-use n32_values::{Bytes, Doc, DocList, NoMemory, Whole, text_length};
-use script_lines::{document_text, wire_text};
+use n32_values::{Bytes, Doc, DocList, Hex64, NoMemory, Whole, text_length};
+use script_lines::{document_text, opening_text, wire_text};
 use std::alloc::Global;
 
 const MOST_BYTES: u64 = 134_217_728;
@@ -83,6 +83,24 @@ pub(crate) fn put_made(
 {
     let place = next_place(&world.wire)?;
     let (text, document) = document_text(alloc, number, document, place)?;
+    push(world, document)?;
+    Ok(text)
+}
+
+/// Answers a document with which a context of that id opens, and puts it on the wire.
+pub(crate) fn put_opening(
+    alloc: Global,
+    world: &mut World,
+    number: u64,
+    document: Doc,
+    id: Hex64,
+) -> Result<Bytes, NoMemory>
+    requires { world.old.wire_bytes ≡ spec.wire_bytes world.old.wire }
+    ensures text { IfOk result (λ text. text ≡ answer_text number (spec.Opens document (length world.old.wire + 1) id.value)) }
+    ensures goes_on { GoesOn world.old world.new document result }
+{
+    let place = next_place(&world.wire)?;
+    let (text, document) = opening_text(alloc, number, document, place, id)?;
     push(world, document)?;
     Ok(text)
 }

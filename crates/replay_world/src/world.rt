@@ -9,6 +9,7 @@ ghost use Rattle.replay_world.specs.Worlds.{IsReady};
 use context_store::{OpenFault, Store, new_store};
 use n32_outside::Keeper;
 use n32_values::{DocList, List, PlmnId, Text};
+use n32c_handshake::Hands;
 use std::alloc::Global;
 
 /// A node: a SEPP that works.
@@ -23,7 +24,8 @@ pub struct Site {
 /// A list of nodes.
 pub type SiteList = List<Site>;
 
-/// All that a replay keeps between two lines: its nodes, the documents on the wire and the records of contexts.
+/// All that a replay keeps between two lines: its nodes, the documents on the wire, the records of contexts, and the
+/// starts of handshakes.
 #[derive(Drop)]
 pub struct World {
     /// The nodes, in the order in which they began to work.
@@ -34,15 +36,18 @@ pub struct World {
     pub wire_bytes: u64,
     /// The records, as they were last read or added.
     pub store: Store,
+    /// The starts of handshakes that wait.
+    pub hands: Hands,
 }
 
-/// A world without nodes and documents, whose store is stale and has no record. It takes no memory.
+/// A world without nodes, documents and starts, whose store is stale and has no record. It takes no memory.
 pub fn new_world(alloc: Global) -> World
     ensures sites { result.sites ≡ [] }
     ensures wire { result.wire ≡ [] }
     ensures bytes { result.wire_bytes ≡ 0 }
     ensures records { result.store.records ≡ [] }
     ensures stale { result.store.fresh ≡ false }
+    ensures hands { result.hands ≡ [] }
     ensures ready { (held : Option (List (List ℕ))) → IsReady held result }
 {
     World {
@@ -50,6 +55,7 @@ pub fn new_world(alloc: Global) -> World
         wire: DocList::new(alloc),
         wire_bytes: 0,
         store: new_store(alloc),
+        hands: Hands::new(alloc),
     }
 }
 
@@ -67,6 +73,7 @@ pub fn load_world<K: Keeper>(
     ensures sites { world.new.sites ≡ world.old.sites }
     ensures wire { world.new.wire ≡ world.old.wire }
     ensures bytes { world.new.wire_bytes ≡ world.old.wire_bytes }
+    ensures hands { world.new.hands ≡ world.old.hands }
     ensures fresh { OnOk result (world.new.store.fresh ≡ true) }
     ensures held { OnOk result (Holds (K.held keeper.new) world.new.store.records) }
     ensures few { OnOk result (length world.new.store.records ≤ record_limit) }

@@ -1,3 +1,4 @@
 pub mod Told
 pub mod EventNames
 pub mod LineTree
+pub mod HandTexts

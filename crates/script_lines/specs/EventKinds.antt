@@ -4,7 +4,7 @@ use Rattle.spec_documents.specs.Tree.{Members}
 use Rattle.spec_messages.specs.Message.{text_at, any_text}
 use Rattle.spec_script.specs.Events as spec
 use Rattle.script_lines.specs.declared.event_kind.EventKind.{EventKind}
-use Rattle.script_lines.specs.declared.event_kind.EventKind.TheVariants.{Node, Context, Keys, Send, Inject, Deliver, Restart, Pass, Alter, Reported}
+use Rattle.script_lines.specs.declared.event_kind.EventKind.TheVariants.{Node, Context, Keys, Send, Inject, Deliver, Restart, Pass, Alter, Reported, Start, Answer, Finish, Terminate, Ended}
 
 abbrev pub kind_named : List ℕ → Option EventKind
 kind_named name =
@@ -17,7 +17,12 @@ kind_named name =
     else (if bytes_eq name (codes "restart") then Some Restart
     else (if bytes_eq name (codes "pass") then Some Pass
     else (if bytes_eq name (codes "alter") then Some Alter
-    else (if bytes_eq name (codes "reported") then Some Reported else None)))))))))
+    else (if bytes_eq name (codes "reported") then Some Reported
+    else (if bytes_eq name (codes "start") then Some Start
+    else (if bytes_eq name (codes "answer") then Some Answer
+    else (if bytes_eq name (codes "finish") then Some Finish
+    else (if bytes_eq name (codes "terminate") then Some Terminate
+    else (if bytes_eq name (codes "ended") then Some Ended else None))))))))))))))
 
 abbrev pub kind_in : Members → Option EventKind
 kind_in ms = option_and_then kind_named (text_at any_text (codes "do") ms)
@@ -35,3 +40,8 @@ event_by (Some Restart) ms = spec.restart_event ms
 event_by (Some Pass) ms = spec.pass_event ms
 event_by (Some Alter) ms = spec.alter_event ms
 event_by (Some Reported) ms = spec.reported_event ms
+event_by (Some Start) ms = spec.start_event ms
+event_by (Some Answer) ms = spec.answer_event ms
+event_by (Some Finish) ms = spec.finish_event ms
+event_by (Some Terminate) ms = spec.terminate_event ms
+event_by (Some Ended) ms = spec.ended_event ms

@@ -1,7 +1,7 @@
 -- The names of an event's members (this project's own).
 use Rattle.std.specs.Prelude.{ℕ, List, codes}
 use Rattle.script_lines.specs.declared.event_member.EventMember.{EventMember}
-use Rattle.script_lines.specs.declared.event_member.EventMember.TheVariants.{Do, Node, Plmn, Id, PeerNode, Peer, Suite, Policy, OwnIpx, PeerIpx, Send, Receive, First, Message, Answers, Document, Wire, Ipx, Operations}
+use Rattle.script_lines.specs.declared.event_member.EventMember.TheVariants.{Do, Node, Plmn, Id, PeerNode, Peer, Suite, Policy, OwnIpx, PeerIpx, Send, Receive, First, Message, Answers, Document, Wire, Ipx, Operations, Offer}
 
 abbrev pub member_name : EventMember → List ℕ
 member_name Do = codes "do"
@@ -23,3 +23,4 @@ member_name Document = codes "document"
 member_name Wire = codes "wire"
 member_name Ipx = codes "ipx"
 member_name Operations = codes "operations"
+member_name Offer = codes "offer"

@@ -9,11 +9,20 @@ use Rattle.context_records.specs.View.{suite_view, key_set_view}
 use Rattle.sending_sepp.specs.Sending as sending
 use Rattle.receiving_sepp.specs.Views.{refused_view}
 use Rattle.spec_exchange.specs.Outside as outside
+use Rattle.spec_messages.specs.Limits.{many_records}
+use Rattle.spec_handshake.specs.Differences.{AtMapping, InTypes}
+use Rattle.spec_handshake.specs.Refusals as handshake
+use Rattle.n32c_handshake.specs.Members.{member_name as hand_member}
+use Rattle.n32c_handshake.specs.View.{capability_view}
+use Rattle.spec_script.specs.Offers as offers
 use Rattle.spec_script.specs.Events as events
 use Rattle.spec_script.specs.Refusals as spec
 use Rattle.script_lines.specs.declared.event.HandedContext.{HandedContext}
 use Rattle.script_lines.specs.declared.event.Event.{Event}
-use Rattle.script_lines.specs.declared.event.Event.TheVariants.{Node, Context, Keys, Send, Inject, Deliver, Restart, Pass, Alter, Reported}
+use Rattle.script_lines.specs.declared.event.Event.TheVariants.{Node, Context, Keys, Send, Inject, Deliver, Restart, Pass, Alter, Reported, Start, Answer, Finish, Terminate, Ended}
+use Rattle.script_lines.specs.declared.offer.HandedOffer.{HandedOffer}
+use Rattle.script_lines.specs.declared.hand_refusal.HandRefusal.{HandRefusal}
+use Rattle.script_lines.specs.declared.hand_refusal.HandRefusal.TheVariants as hand
 use Rattle.script_lines.specs.declared.refusal.Refusal.{Refusal}
 use Rattle.script_lines.specs.declared.refusal.Refusal.TheVariants as refusals
 
@@ -32,6 +41,9 @@ handed_view x = record {
   peer_ipx = x.peer_ipx;
 }
 
+abbrev pub offer_view : HandedOffer → offers.HandedOffer
+offer_view x = record { id = x.id.value; capabilities = map capability_view x.capabilities; suites = map suite_view x.suites; policy = tree_of x.policy; ipx = x.ipx }
+
 abbrev pub event_view : Event → events.Event
 event_view (Node node plmn) = events.AddNode node plmn
 event_view (Context x) = events.AddContext (handed_view x)
@@ -43,8 +55,24 @@ event_view (Restart node) = events.Restart node
 event_view (Pass ipx wire operations) = events.Pass ipx wire (tree_of operations)
 event_view (Alter wire operations) = events.Alter wire (map op_view operations)
 event_view (Reported node document) = events.Reported node (tree_of document)
+event_view (Start node peer offer) = events.StartWith node peer (offer_view offer)
+event_view (Answer node wire offer) = events.AnswerTo node wire (offer_view offer)
+event_view (Finish node wire) = events.FinishBy node wire
+event_view (Terminate node id) = events.Terminate node id.value
+event_view (Ended node wire) = events.EndBy node wire
 
 -- ---- refusals
+
+abbrev pub hand_view : HandRefusal → handshake.Refusal
+hand_view (hand.Form member) = handshake.BadForm (hand_member member)
+hand_view hand.NotExpected = handshake.NotExpected
+hand_view hand.NoCommonCapability = handshake.NoCommonCapability
+hand_view hand.NoCommonSuite = handshake.NoCommonSuite
+hand_view (hand.MappingDiffers number own other) = handshake.PolicyDiffers (AtMapping number own other)
+hand_view hand.TypesDiffer = handshake.PolicyDiffers InTypes
+hand_view hand.ContextUsed = handshake.ContextUsed
+hand_view hand.ContextNotFound = handshake.ContextNotFound
+hand_view hand.Limit = handshake.Beyond many_records
 
 abbrev pub refusal_view : Refusal → spec.Refusal
 refusal_view refusals.Syntax = spec.Syntax
@@ -67,3 +95,4 @@ refusal_view (refusals.Receiving refused report) = spec.OfReceiving (refused_vie
 refusal_view (refusals.Journal number) = spec.OfOutside (outside.Journal number)
 refusal_view refusals.Keeper = spec.OfOutside outside.Keeper
 refusal_view refusals.Signer = spec.SignerFailed
+refusal_view (refusals.Handshake refusal) = spec.OfHandshake (hand_view refusal)

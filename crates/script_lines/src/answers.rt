@@ -21,7 +21,12 @@ use n32_values::{
 };
 use std::alloc::Global;
 
-fn put_number(alloc: Global, map: &mut NodeMap, name: &str, number: u64) -> Result<(), NoMemory>
+pub(crate) fn put_number(
+    alloc: Global,
+    map: &mut NodeMap,
+    name: &str,
+    number: u64,
+) -> Result<(), NoMemory>
     ensures { OnOk result (map.new ≡ put_member name.now (number_tree number) map.old) }
 {
     put(alloc, map, name, Node::Whole(Whole::from_u64(number)))
@@ -48,7 +53,7 @@ pub fn wire_text(alloc: Global, number: u64, wire: u64) -> Result<Bytes, NoMemor
 }
 
 // The document that an answer holds.
-fn take_document(answer: Node) -> Option<Node>
+pub(crate) fn take_document(answer: Node) -> Option<Node>
     ensures { option_map tree_of result ≡ document_in (tree_of answer) }
 {
     match answer {
@@ -104,7 +109,12 @@ pub fn delivered_text(
     doc_text(alloc, &Node::Members(map))
 }
 
-fn put_id(alloc: Global, map: &mut NodeMap, name: &str, id: Hex64) -> Result<(), NoMemory>
+pub(crate) fn put_id(
+    alloc: Global,
+    map: &mut NodeMap,
+    name: &str,
+    id: Hex64,
+) -> Result<(), NoMemory>
     ensures { OnOk result (map.new ≡ put_member name.now (words (id_text id.value)) map.old) }
 {
     put(alloc, map, name, Node::Words(hex64_text(alloc, id)?))

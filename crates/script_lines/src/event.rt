@@ -1,4 +1,5 @@
 // Events.
+use crate::offer::HandedOffer;
 use context_records::KeySet;
 use json_patch6902::OpList;
 use jwe_flat::Suite;
@@ -98,5 +99,44 @@ pub enum Event {
         node: Text,
         /// The document of the report.
         document: Node,
+    },
+    /// A node starts a handshake with a peer.
+    Start {
+        /// The name of the node.
+        node: Text,
+        /// The name of the peer's node.
+        peer: Text,
+        /// What the node offers.
+        offer: HandedOffer,
+    },
+    /// A document of a handshake reaches a node, which answers it.
+    Answer {
+        /// The name of the node.
+        node: Text,
+        /// The number of the document.
+        wire: Whole,
+        /// What the node offers.
+        offer: HandedOffer,
+    },
+    /// A reply reaches a node that started a handshake.
+    Finish {
+        /// The name of the node.
+        node: Text,
+        /// The number of the document.
+        wire: Whole,
+    },
+    /// A node ends a context.
+    Terminate {
+        /// The name of the node.
+        node: Text,
+        /// The context's id at the node.
+        id: Hex64,
+    },
+    /// The end of a context reaches its other node.
+    Ended {
+        /// The name of the node.
+        node: Text,
+        /// The number of the document.
+        wire: Whole,
     },
 }

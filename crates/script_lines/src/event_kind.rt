@@ -18,6 +18,11 @@ pub(crate) enum EventKind {
     Pass,
     Alter,
     Reported,
+    Start,
+    Answer,
+    Finish,
+    Terminate,
+    Ended,
 }
 
 fn kind_named(name: &str) -> Option<EventKind>
@@ -43,6 +48,16 @@ fn kind_named(name: &str) -> Option<EventKind>
         Some(EventKind::Alter)
     } else if name == "reported" {
         Some(EventKind::Reported)
+    } else if name == "start" {
+        Some(EventKind::Start)
+    } else if name == "answer" {
+        Some(EventKind::Answer)
+    } else if name == "finish" {
+        Some(EventKind::Finish)
+    } else if name == "terminate" {
+        Some(EventKind::Terminate)
+    } else if name == "ended" {
+        Some(EventKind::Ended)
     } else {
         None
     }

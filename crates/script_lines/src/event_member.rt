@@ -42,6 +42,8 @@ pub enum EventMember {
     Ipx,
     /// `operations`
     Operations,
+    /// `offer`
+    Offer,
 }
 
 impl EventMember {
@@ -69,6 +71,7 @@ impl EventMember {
             EventMember::Wire => "wire",
             EventMember::Ipx => "ipx",
             EventMember::Operations => "operations",
+            EventMember::Offer => "offer",
         }
     }
 }

@@ -13,6 +13,7 @@ use crate::event_values::{
     answers_at, first_at, id_at, identity_at, ipx_at, key_pair_at, name_at, network_at, ops_at,
     suite_at, take, take_operations, value_at, whole_at,
 };
+use crate::hand_reading::{read_answer, read_ended, read_finish, read_start, read_terminate};
 use context_records::KeySet;
 use n32_values::{Doc, Node, NodeMap};
 use std::alloc::Global;
@@ -156,13 +157,19 @@ fn read_object(alloc: Global, map: NodeMap) -> Result<Event, EventRead>
         Some(EventKind::Pass) => read_pass(alloc, map),
         Some(EventKind::Alter) => read_alter(alloc, &map),
         Some(EventKind::Reported) => read_reported(alloc, map),
+        Some(EventKind::Start) => read_start(alloc, map),
+        Some(EventKind::Answer) => read_answer(alloc, map),
+        Some(EventKind::Finish) => read_finish(alloc, &map),
+        Some(EventKind::Terminate) => read_terminate(alloc, &map),
+        Some(EventKind::Ended) => read_ended(alloc, &map),
         None => Err(EventRead::Member(EventMember::Do)),
     }
 }
 
 /// Reads the event that a line's document is of. `Member` names the first member, in the order of the event's
 /// table, that is missing or has not its form, `do` first. Other members are ignored. A message, a policy, an
-/// injected document, a report and the operations of `pass` are moved out of the line's, and their forms aren't judged here.
+/// injected document, a report and the operations of `pass` are moved out of the line's, and their forms aren't judged
+/// here.
 pub fn read_event(alloc: Global, document: Doc) -> Result<Event, EventRead>
     ensures { Gives event_view result (spec.event_of document) }
 {

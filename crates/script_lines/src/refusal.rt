@@ -4,6 +4,7 @@ ghost use Rattle.spec_script.specs.Answers.{report_of};
 ghost use Rattle.spec_script.specs.RefusalTexts.{telling};
 ghost use Rattle.script_lines.specs.View.{refusal_view};
 
+use crate::hand_refusal::HandRefusal;
 use block_forms::LimitName;
 use http_message::MessageMember;
 use n32_values::Doc;
@@ -59,6 +60,8 @@ pub enum Refusal {
     Keeper,
     /// The signer failed.
     Signer,
+    /// A call of a handshake comes to nothing.
+    Handshake(HandRefusal),
 }
 
 impl Refusal {
@@ -87,6 +90,7 @@ impl Refusal {
             Refusal::Journal(_) => 9,
             Refusal::Keeper => 34,
             Refusal::Signer => 36,
+            Refusal::Handshake(refusal) => refusal.number(),
         }
     }
 
@@ -125,6 +129,7 @@ impl Refusal {
             Refusal::Journal(_) => "JOURNAL",
             Refusal::Keeper => "KEEPER",
             Refusal::Signer => "SIGNER",
+            Refusal::Handshake(refusal) => refusal.name(),
         }
     }
 }

@@ -27,6 +27,7 @@ pub(crate) fn detail_text(alloc: Global, refusal: &Refusal) -> Result<Option<Tex
         Refusal::Sending(fault) => return fault.detail(alloc),
         Refusal::Form(part) => Text::from_text(alloc, part.name())?,
         Refusal::Receiving { refused, report: _ } => return refused.detail(alloc),
+        Refusal::Handshake(refusal) => return refusal.detail(alloc),
         Refusal::Journal(number) => number_text(alloc, *number)?,
         _ => return Ok(None),
     };

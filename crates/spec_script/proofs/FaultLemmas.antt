@@ -1,5 +1,5 @@
 -- Faults of the outside: how many are answered, and what is answered without them.
-use Rattle.std.proofs.Common.{◌≡◌, ℕ, ◌+◌, ◌≤◌, Bool, true, false, List, [], ◌∷◌, Result, Ok, Err, refl, sym, ap, ◌∙◌, cond, arith}
+use Rattle.std.proofs.Common.{◌≡◌, ℕ, ◌+◌, ◌≤◌, Bool, true, false, List, [], ◌∷◌, Option, Some, Result, Ok, Err, refl, sym, ap, ◌∙◌, cond, arith}
 use Rattle.std.specs.Prelude.{count_by}
 use Rattle.std.proofs.lemmas.List.Sums.{sum_by-cons}
 use Rattle.spec_records.specs.Records.{KeySet, Context, Record}
@@ -15,11 +15,18 @@ use Rattle.spec_exchange.specs.Outside.{Choice, Cause, Own, Outside, no_fault, R
 use Rattle.spec_exchange.specs.Outside as outside
 use Rattle.spec_exchange.specs.FirstFailed.{Delivery}
 use Rattle.spec_exchange.specs.Calls.{Sealed, delivered_record, sent_record, protected}
+use Rattle.spec_handshake.specs.Documents.{Document, Terminates, document_tree}
+use Rattle.spec_handshake.specs.Refusals as handshake
+use Rattle.spec_handshake.specs.Starts.{Offer, Start}
+use Rattle.spec_handshake.specs.Calls as calls
+use Rattle.spec_handshake.specs.Runs.{reply_document, next_document}
 use Rattle.spec_script.specs.Refusals.{Refusal, BadForm, SignerFailed}
-use Rattle.spec_script.specs.Events.{Event, AddNode, AddContext, AddKeys, Send, Pass, Inject, Alter, Deliver, Restart, Reported}
+use Rattle.spec_script.specs.Events.{Event, AddNode, AddContext, AddKeys, Send, Pass, Inject, Alter, Deliver, Restart, Reported, StartWith, AnswerTo, FinishBy, Terminate, EndBy}
 use Rattle.spec_script.specs.Choices.{Signer, Signing, Signs, SignerFails, Choices, Meanings, SignsBy, VerifiesBy, IsBy, unfailing, of_accepting}
-use Rattle.spec_script.specs.Steps.{State, Answer, Step, or_refuses, puts, forwards, sends_sealed, sealed_answer, delivers, delivery_answer, has_read, passes_on, opens, keys_up, step, step_with}
+use Rattle.spec_script.specs.Steps.{State, Answer, Step, or_refuses, puts, forwards, sends_sealed, sealed_answer, delivers, delivery_answer, has_read, passes_on, opens, keys_up, step, step_with, Forwards, next_number, call_answer, shakes, replied_answer, finished_answer, starts_with, answers_to, finishes_by, closes}
 use Rattle.spec_script.specs.Output.{RoseBy, HaveCauses, count_after, has_refusal, is_verifier_failure, is_outside_refusal}
+use Rattle.spec_script.specs.Offers.{offer_of}
+use Rattle.spec_script.proofs.HandLemmas.{IsTold, forwards_told, replied_told, finished_told}
 use Rattle.spec_script.proofs.VerifierLemmas.{SameChecks, accepting-same}
 
 -- ---- counts
@@ -136,6 +143,58 @@ opens-same s f x = step_read s f.reading _ _ (step_bind s _ _ _ λ new. step_bin
 keys-same : (s : State) (f : Choice) (node : List ℕ) (id : ℕ) (set : KeySet) → SameStep (or_refuses s (keys_up s f node id set)) (or_refuses s (keys_up s no_fault node id set))
 keys-same s f node id set = step_read s f.reading _ _ (step_bind s _ _ _ λ x. step_bind s _ _ _ λ new. step_bind s _ _ _ λ fit. step_bind s _ _ _ λ room. step_puts s f.putting _ _)
 
+-- ---- calls of the handshake, none of whose own refusals is a fault of the outside
+
+abbrev no_fault_of : handshake.Refusal → Bool
+no_fault_of refusal = false
+
+call_each : {R X T : Type 0} (bad : R → Bool) (r : Result X R) (k l : X → Outcome R T) → ((x : X) → SameCall bad (k x) (l x)) → SameCall bad (or_refusal r k) (or_refusal r l)
+call_each bad (Ok x) k l h = h x
+call_each bad (Err d) k l h = call_self bad _
+
+shaken_faulty : {T : Type 0} (told : T → Answer) → ((x : T) → has_refusal is_outside_refusal (told x) ≡ false) → (r : Result T (Cause handshake.Refusal)) → has_refusal is_outside_refusal (call_answer told r) ≡ faulty no_fault_of r
+shaken_faulty told fine (Ok x) = fine x
+shaken_faulty told fine (Err (Own refusal)) = refl
+shaken_faulty told fine (Err (Outside fault)) = refl
+
+shaken-same : {T : Type 0} (s : State) (told : T → Answer) (made : T → Option Document) (starts : Outcome handshake.Refusal T → List Start) (o p : Outcome handshake.Refusal T)
+    → ((x : T) → IsTold s (told x) (made x)) → SameCall no_fault_of o p → SameStep (shakes s told made (starts o) o) (shakes s told made (starts p) p)
+shaken-same s told made starts o p is h = record { is = λ z. ap (λ q. shakes s told made (starts q) q) (h.is (sym (shaken_faulty told (λ x. (is x).fine) o.result) ∙ z)) }
+
+starts-same : (s : State) (f : Choice) (node peer : List ℕ) (offer : Offer) → SameStep (starts_with s f node peer offer) (starts_with s no_fault node peer offer)
+starts-same s f node peer offer = shaken-same s (λ d. Forwards (document_tree d) (next_number s)) Some (λ o. calls.after_start s.starts node peer offer o.result) _ _ (forwards_told s)
+    (call_read no_fault_of f.reading _ _ (call_each no_fault_of (calls.begins s.records node offer) _ _ λ d. call_puts no_fault_of f.putting _ d))
+
+reply-same : (p : Putting) (x : calls.Replied) → SameCall no_fault_of (calls.put_reply p x) (calls.put_reply Kept x)
+reply-same p (calls.Chose d) = call_self no_fault_of _
+reply-same p (calls.OpenedBy d x) = call_puts no_fault_of p _ _
+
+answers-same : (s : State) (f : Choice) (node plmn : List ℕ) (offer : Offer) (t : Tree) → SameStep (answers_to s f node plmn offer t) (answers_to s no_fault node plmn offer t)
+answers-same s f node plmn offer t = shaken-same s (replied_answer (next_number s)) reply_document (λ o. s.starts) _ _ (replied_told s)
+    (call_read no_fault_of f.reading _ _ (call_each no_fault_of (calls.replies s.records node plmn offer t) _ _ (reply-same f.putting)))
+
+finished-same : (p : Putting) (x : calls.Finished) → SameCall no_fault_of (calls.put_finished p x) (calls.put_finished Kept x)
+finished-same p (calls.Next d) = call_self no_fault_of _
+finished-same p (calls.OpenedAs x) = call_puts no_fault_of p _ _
+finished-same p calls.EndedTls = call_self no_fault_of _
+
+-- what a finish comes to, once the reading is known
+abbrev finishes_as : State → (node : List ℕ) → Tree → Reading → Outcome handshake.Refusal calls.Finished → Step
+finishes_as s node t reading o = shakes s (finished_answer (next_number s)) next_document (calls.after_finish reading s.starts node t (behind_reading reading o).result) (behind_reading reading o)
+
+finishes_read : (s : State) (node : List ℕ) (t : Tree) (reading : Reading) (o p : Outcome handshake.Refusal calls.Finished) → SameCall no_fault_of o p → SameStep (finishes_as s node t reading o) (finishes_as s node t Read p)
+finishes_read s node t Read o p h = shaken-same s (finished_answer (next_number s)) next_document (λ q. calls.after_finish Read s.starts node t q.result) o p (finished_told s) h
+finishes_read s node t ReadFails o p h = record { is = λ e. cc }
+finishes_read s node t (BadRecord k) o p h = record { is = λ e. cc }
+
+finishes-same : (s : State) (f : Choice) (node plmn : List ℕ) (t : Tree) → SameStep (finishes_by s f node plmn t) (finishes_by s no_fault node plmn t)
+finishes-same s f node plmn t = finishes_read s node t f.reading _ _ (call_each no_fault_of (calls.finishes s.records s.starts node plmn t) _ _ (finished-same f.putting))
+
+closing-same : (s : State) (f : Choice) (node : List ℕ) (r : Result calls.Closing handshake.Refusal)
+    → SameStep (closes s (behind_reading f.reading (or_refusal r (calls.put_closing node f.putting)))) (closes s (behind_reading Read (or_refusal r (calls.put_closing node Kept))))
+closing-same s f node r = shaken-same s (λ c. Forwards (document_tree c.document) (next_number s)) (λ c. Some c.document) (λ o. s.starts) _ _ (λ c. forwards_told s c.document)
+    (call_read no_fault_of f.reading _ _ (call_each no_fault_of r _ _ λ c. call_puts no_fault_of f.putting _ c))
+
 step-same : (m : Meanings) (s : State) (f : Choices) → IsBy m f → (e : Event) → SameStep (step m.passes s f e) (step m.passes s (unfailing m) e)
 step-same m s f by (AddNode node plmn) = step_self _
 step-same m s f by (AddContext x) = step_bind s _ _ _ λ plmn. step_bind s _ _ _ λ policy. opens-same s f.keeper _
@@ -149,6 +208,11 @@ step-same m s f by (Deliver node number) = step_bind s _ _ _ λ plmn. step_bind 
     delivery-same s t _ _ (accepted-same m f by.verifies s.records node t)
 step-same m s f by (Restart node) = step_self _
 step-same m s f by (Reported node t) = step_self _
+step-same m s f by (StartWith node peer x) = step_bind s _ _ _ λ plmn. step_bind s _ _ _ λ room. step_bind s _ _ _ λ policy. starts-same s f.keeper node peer (offer_of x policy)
+step-same m s f by (AnswerTo node number x) = step_bind s _ _ _ λ plmn. step_bind s _ _ _ λ t. step_bind s _ _ _ λ room. step_bind s _ _ _ λ policy. answers-same s f.keeper node plmn (offer_of x policy) t
+step-same m s f by (FinishBy node number) = step_bind s _ _ _ λ plmn. step_bind s _ _ _ λ t. step_bind s _ _ _ λ room. finishes-same s f.keeper node plmn t
+step-same m s f by (Terminate node id) = step_bind s _ _ _ λ plmn. step_bind s _ _ _ λ room. closing-same s f.keeper node (calls.closes s.records node id Terminates)
+step-same m s f by (EndBy node number) = step_bind s _ _ _ λ plmn. step_bind s _ _ _ λ t. step_bind s _ _ _ λ room. closing-same s f.keeper node (calls.closes_by s.records node t)
 
 pub line_determined : (m : Meanings) (s : State) (f : Choices) → IsBy m f → (r : Result Event Refusal) → has_refusal is_outside_refusal (step_with m.passes s f r).answer ≡ false → step_with m.passes s f r ≡ step_with m.passes s (unfailing m) r
 line_determined m s f by (Ok e) h = (step-same m s f by e).is h

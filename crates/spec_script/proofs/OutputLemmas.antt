@@ -9,7 +9,7 @@ use Rattle.spec_messages.specs.Message.{Kind}
 use Rattle.spec_records.specs.Records.{Record, was_delivered, was_sent}
 use Rattle.spec_exchange.specs.AcceptRefusals as accepting
 use Rattle.spec_exchange.specs.SendingRefusals as sending
-use Rattle.spec_exchange.specs.Outside.{Cause, Putting, Kept, Lost, KeptUntold, with_put}
+use Rattle.spec_exchange.specs.Outside.{Outcome, Cause, Putting, Kept, Lost, KeptUntold, with_put}
 use Rattle.spec_exchange.specs.FirstFailed.{Delivery}
 use Rattle.spec_exchange.specs.Calls.{Sealed, sends}
 use Rattle.spec_exchange.specs.Screens.{Passes}
@@ -19,12 +19,16 @@ use Rattle.spec_exchange.specs.AcceptRuns
 use Rattle.spec_exchange.proofs.RunLemmas.{bit}
 use Rattle.spec_exchange.proofs.AcceptRunLemmas.{accepted-once, sent-once}
 use Rattle.spec_documents.specs.Lines.{is_blank, Outputs}
+use Rattle.spec_handshake.specs.Documents.{Document}
+use Rattle.spec_handshake.specs.Refusals as handshake
+use Rattle.spec_handshake.specs.Starts.{Start}
 use Rattle.spec_script.specs.Events.{line_event}
 use Rattle.spec_script.specs.Choices.{Choices, Meanings, of_accepting}
-use Rattle.spec_script.specs.Steps.{State, Answer, Step, after, puts, sealed_answer, delivery_answer, line_step}
+use Rattle.spec_script.specs.Steps.{State, Answer, Step, after, puts, sealed_answer, delivery_answer, line_step, shakes, call_answer}
 use Rattle.spec_script.specs.Answers.{answer_text}
 use Rattle.spec_script.specs.Output.{Answers, Answered, Numbered, answers_text, GivesAnswer, reply_in}
 use Rattle.spec_script.specs.Output as output
+use Rattle.spec_script.proofs.HandLemmas.{IsTold}
 use Rattle.spec_script.proofs.StepLemmas.{line_covered}
 
 -- ---- a run's answers
@@ -63,10 +67,18 @@ sealed_made : (p : AcceptRuns.Reply → Bool) → OfReplies p → (n : ℕ) (r :
 sealed_made p h n (Ok x) = refl
 sealed_made p h n (Err e) = sym (h.unsent e)
 
+shaken_other : {T : Type 0} (p : AcceptRuns.Reply → Bool) (s : State) (told : T → Answer) (made : T → Option Document) (starts : List Start) (o : Outcome handshake.Refusal T)
+    → ((x : T) → IsTold s (told x) (made x)) → p (reply_in (shakes s told made starts o).answer) ≡ p AcceptRuns.Other
+shaken_other {T} p s told made starts o is = by_result o.result
+  where
+    by_result : (r : Result T (Cause handshake.Refusal)) → p (reply_in (call_answer told r)) ≡ p AcceptRuns.Other
+    by_result (Ok x) = ap p (is x).other
+    by_result (Err e) = refl
+
 line_call : (p : AcceptRuns.Reply → Bool) → OfReplies p → (passes : Passes) (s : State) (f : Choices) (line : List ℕ) → IsCall p passes s f (line_step passes s f line)
 line_call p h passes s f line = line_covered (λ r. IsCall p passes s f r) passes s f (record {
   refused = λ d. other_call p passes s f _ refl;
-  done = λ name. other_call p passes s f _ refl;
+  restarted = λ node. other_call p passes s f _ refl;
   node = λ n plmn. other_call p passes s f _ refl;
   put = λ name r. other_call p passes s f _ (put_other p s f.keeper.putting name r);
   injected = λ t. other_call p passes s f _ refl;
@@ -74,6 +86,7 @@ line_call p h passes s f line = line_covered (λ r. IsCall p passes s f r) passe
   reported = λ r. other_call p passes s f _ refl;
   sealed = λ n i o m. record { call = Send n i o m; put = refl; reply = sealed_made p h _ (sends f.keeper s.records n i o m).result };
   came = λ n t. record { call = Deliver n t; put = refl; reply = came_told p h t (accepted passes (of_accepting f) s.records n t).result };
+  shaken = λ told made starts o is call. other_call p passes s f _ (shaken_other p s told made starts o is);
 }) (line_event line)
 
 abbrev passing : (AcceptRuns.Reply → Bool) → List Numbered → ℕ

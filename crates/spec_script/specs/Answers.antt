@@ -8,7 +8,7 @@ use Rattle.spec_reports.specs.Report.{Report}
 use Rattle.spec_reports.specs.Document.{type_text}
 use Rattle.spec_script.specs.Refusals.{Refusal, OfReceiving}
 use Rattle.spec_script.specs.RefusalTexts.{telling}
-use Rattle.spec_script.specs.Steps.{Answer, Fine, OnWire, Sends, Forwards, Delivers, Reports, Refuses}
+use Rattle.spec_script.specs.Steps.{Answer, Fine, OnWire, Sends, Forwards, Delivers, Reports, Opens, OpensAs, EndsTls, Refuses}
 
 abbrev pub number_tree : ℕ → Tree
 number_tree n = whole (pos n)
@@ -50,6 +50,10 @@ reported_tree n r = members (with_entry r.entry (object (
 abbrev pub document_tree : ℕ → Tree → ℕ → Tree
 document_tree n document number = members (object ((codes "document", document) ∷ (codes "line", number_tree n) ∷ (codes "wire", number_tree number) ∷ []))
 
+-- with the id of the context that opens
+abbrev pub opens_tree : ℕ → Tree → ℕ → ℕ → Tree
+opens_tree n document number id = members (object ((codes "document", document) ∷ (codes "line", number_tree n) ∷ (codes "opened", words (id_text id)) ∷ (codes "wire", number_tree number) ∷ []))
+
 -- the document that answers line n
 abbrev pub answer_tree : ℕ → Answer → Tree
 answer_tree n (Fine name) = members (object ((codes "line", number_tree n) ∷ (codes "ok", words name) ∷ []))
@@ -58,6 +62,9 @@ answer_tree n (Sends x number) = document_tree n x.document number
 answer_tree n (Forwards document number) = document_tree n document number
 answer_tree n (Delivers d) = members (object ((codes "delivered", message_tree d.content) ∷ (codes "line", number_tree n) ∷ (codes "message", words (id_text d.message)) ∷ []))
 answer_tree n (Reports r) = reported_tree n r
+answer_tree n (Opens document number id) = opens_tree n document number id
+answer_tree n (OpensAs id) = members (object ((codes "line", number_tree n) ∷ (codes "opened", words (id_text id)) ∷ []))
+answer_tree n EndsTls = members (object ((codes "ended", words (codes "TLS")) ∷ (codes "line", number_tree n) ∷ []))
 answer_tree n (Refuses e) = refusal_tree n e
 
 abbrev pub answer_text : ℕ → Answer → List ℕ

@@ -12,6 +12,7 @@ use Rattle.spec_messages.specs.PolicyDocument.{chosen, if_there}
 use Rattle.spec_records.specs.Records.{Suite, OneKey, KeySet}
 use Rattle.spec_records.specs.RecordDocument.{suite_of, number_of, ipx_in, key_pair_in}
 use Rattle.spec_script.specs.Refusals.{Refusal, BadEvent}
+use Rattle.spec_script.specs.Offers.{HandedOffer, offer_in}
 use Rattle.spec_script.specs.LineTree.{line_tree}
 
 -- a context that is handed in. The form of its policy is judged later
@@ -44,6 +45,14 @@ pub data Event : Type 0 where
   Restart : (node : List ℕ) → Event
   -- a report of its peer reaches a node
   Reported : (node : List ℕ) (document : Tree) → Event
+  -- a node starts a handshake with a peer
+  StartWith : (node peer : List ℕ) (offer : HandedOffer) → Event
+  -- the document of that number on the wire reaches a node, which answers it, or goes on with it in a handshake that it started
+  AnswerTo : (node : List ℕ) (wire : ℤ) (offer : HandedOffer) → Event
+  FinishBy : (node : List ℕ) (wire : ℤ) → Event
+  -- a node ends a context, and the document of that number tells it to the peer
+  Terminate : (node : List ℕ) (id : ℕ) → Event
+  EndBy : (node : List ℕ) (wire : ℤ) → Event
 
 -- ---- members
 
@@ -173,6 +182,38 @@ restart_event ms =
     read_at node_in (codes "node") ms >>= λ node.
     Ok (Restart node)
 
+abbrev pub start_event : Members → Result Event (List ℕ)
+start_event ms =
+    read_at node_in (codes "node") ms >>= λ node.
+    read_at node_in (codes "peer") ms >>= λ peer.
+    offer_in ms >>= λ offer.
+    Ok (StartWith node peer offer)
+
+abbrev pub answer_event : Members → Result Event (List ℕ)
+answer_event ms =
+    read_at node_in (codes "node") ms >>= λ node.
+    read_at whole_in (codes "wire") ms >>= λ wire.
+    offer_in ms >>= λ offer.
+    Ok (AnswerTo node wire offer)
+
+abbrev pub finish_event : Members → Result Event (List ℕ)
+finish_event ms =
+    read_at node_in (codes "node") ms >>= λ node.
+    read_at whole_in (codes "wire") ms >>= λ wire.
+    Ok (FinishBy node wire)
+
+abbrev pub terminate_event : Members → Result Event (List ℕ)
+terminate_event ms =
+    read_at node_in (codes "node") ms >>= λ node.
+    read_at id_in (codes "id") ms >>= λ id.
+    Ok (Terminate node id)
+
+abbrev pub ended_event : Members → Result Event (List ℕ)
+ended_event ms =
+    read_at node_in (codes "node") ms >>= λ node.
+    read_at whole_in (codes "wire") ms >>= λ wire.
+    Ok (EndBy node wire)
+
 -- by the text of `do`
 abbrev pub event_named : List ℕ → Members → Result Event (List ℕ)
 event_named name ms =
@@ -185,7 +226,12 @@ event_named name ms =
     else (if bytes_eq name (codes "restart") then restart_event ms
     else (if bytes_eq name (codes "pass") then pass_event ms
     else (if bytes_eq name (codes "alter") then alter_event ms
-    else (if bytes_eq name (codes "reported") then reported_event ms else Err (codes "do"))))))))))
+    else (if bytes_eq name (codes "reported") then reported_event ms
+    else (if bytes_eq name (codes "start") then start_event ms
+    else (if bytes_eq name (codes "answer") then answer_event ms
+    else (if bytes_eq name (codes "finish") then finish_event ms
+    else (if bytes_eq name (codes "terminate") then terminate_event ms
+    else (if bytes_eq name (codes "ended") then ended_event ms else Err (codes "do")))))))))))))))
 
 abbrev pub event_with : Members → Result Event (List ℕ)
 event_with ms = read_at (text_in any_text) (codes "do") ms >>= λ name. event_named name ms

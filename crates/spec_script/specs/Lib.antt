@@ -2,6 +2,7 @@ pub mod Refusals
 pub mod RefusalTexts
 pub mod LineTree
 pub mod Messages
+pub mod Offers
 pub mod Events
 pub mod Choices
 pub mod Altering

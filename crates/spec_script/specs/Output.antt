@@ -1,5 +1,5 @@
 -- The answers to the lines of a script, each line with free choices of the outside, and their texts (this project's own).
-use Rattle.std.specs.Prelude.{◌≡◌, ℕ, ◌+◌, ◌-◌, ◌^◌, ◌≤◌, min, Bool, true, false, MatchBool, List, [], ◌∷◌, ◌++◌}
+use Rattle.std.specs.Prelude.{◌≡◌, ◌⊎◌, ℕ, ◌+◌, ◌-◌, ◌^◌, ◌≤◌, min, Bool, true, false, MatchBool, List, [], ◌∷◌, ◌++◌}
 use Rattle.spec_messages.specs.Message.{Kind}
 use Rattle.spec_records.specs.Records.{Record}
 use Rattle.spec_exchange.specs.Outside.{Keeper}
@@ -9,7 +9,9 @@ use Rattle.spec_exchange.specs.AcceptRefusals as accepting
 use Rattle.spec_exchange.specs.AcceptRefusals.{OfEntry}
 use Rattle.spec_exchange.specs.AcceptRuns
 use Rattle.spec_documents.specs.Lines.{lines_of, is_blank}
-use Rattle.spec_script.specs.Refusals.{Refusal, OfReceiving, OfOutside, SignerFailed}
+use Rattle.spec_handshake.specs.Refusals.{ends_start}
+use Rattle.spec_handshake.specs.Starts.{Start, without_first}
+use Rattle.spec_script.specs.Refusals.{Refusal, OfReceiving, OfOutside, OfHandshake, SignerFailed}
 use Rattle.spec_script.specs.Steps.{State, Answer, Sends, Delivers, Refuses, after, line_step}
 use Rattle.spec_script.specs.Answers.{answer_text}
 
@@ -34,9 +36,9 @@ abbrev pub answers_text : List Numbered → List ℕ
 answers_text [] = []
 answers_text (x ∷ xs) = (answer_text x.0 x.1 ++ 10 ∷ []) ++ answers_text xs
 
--- the state in which a run begins: no node, an empty wire, and the records that are held
+-- the state in which a run begins: no node, an empty wire, the records that are held, and no start that waits
 abbrev pub begin : List Record → State
-begin records = record { sites = []; wire = []; records = records }
+begin records = record { sites = []; wire = []; records = records; starts = [] }
 
 -- the bytes may be the output for a script over these records, and t is the last state
 pub record Output (m : Meanings) (records : List Record) (script : List ℕ) (out : List ℕ) (t : State) : Type 0 where
@@ -93,6 +95,15 @@ is_outside_refusal (OfOutside fault) = true
 is_outside_refusal SignerFailed = true
 is_outside_refusal (OfReceiving refusal report) = is_verifier_failure refusal
 is_outside_refusal _ = false
+
+-- a refusal after which a start may wait no longer
+abbrev pub is_ending_refusal : Refusal → Bool
+is_ending_refusal (OfHandshake refusal) = ends_start refusal
+is_ending_refusal _ = false
+
+-- the same starts, or all but the first that passes a test
+abbrev pub LosesOne : (before now : List Start) → Type 0
+LosesOne before now = (now ≡ before) ⊎ ((p : Start → Bool) × (now ≡ without_first p before))
 
 -- ---- counts of faults
 

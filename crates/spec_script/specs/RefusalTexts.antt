@@ -1,4 +1,4 @@
--- How the refusals of a script are told: their numbers, names and details (this project's own). Those of sending, of receiving and of the outside are told by their own tables.
+-- How the refusals of a script are told: their numbers, names and details (this project's own). Those of sending, of receiving, of the handshake and of the outside are told by their own tables.
 use Rattle.std.specs.Prelude.{codes}
 use Rattle.std.specs.Fmt.{decimal}
 use Rattle.spec_messages.specs.Message.{member_name}
@@ -7,7 +7,8 @@ use Rattle.spec_exchange.specs.Telling.{Telling, bare, detailed}
 use Rattle.spec_exchange.specs.AcceptRefusals as accepting
 use Rattle.spec_exchange.specs.SendingRefusals as sending
 use Rattle.spec_exchange.specs.Outside.{fault_telling}
-use Rattle.spec_script.specs.Refusals.{Refusal, Syntax, OtherNumber, BadEvent, NodeUnknown, NodeExists, WireUnknown, Beyond, KeysTwice, ContextNotFound, BadMessage, DeepBody, BadPolicy, ContextUsed, BadForm, BadReport, OfSending, OfReceiving, OfOutside, SignerFailed}
+use Rattle.spec_handshake.specs.Refusals as handshake
+use Rattle.spec_script.specs.Refusals.{Refusal, Syntax, OtherNumber, BadEvent, NodeUnknown, NodeExists, WireUnknown, Beyond, KeysTwice, ContextNotFound, BadMessage, DeepBody, BadPolicy, ContextUsed, BadForm, BadReport, OfSending, OfReceiving, OfOutside, OfHandshake, SignerFailed}
 
 abbrev pub telling : Refusal → Telling
 telling Syntax = bare 1 (codes "SYNTAX")
@@ -28,4 +29,5 @@ telling BadReport = bare 46 (codes "REPORT_FORM")
 telling (OfSending refusal) = sending.telling refusal
 telling (OfReceiving refusal report) = accepting.telling refusal
 telling (OfOutside fault) = fault_telling fault
+telling (OfHandshake refusal) = handshake.telling refusal
 telling SignerFailed = bare 36 (codes "SIGNER")

@@ -6,6 +6,7 @@ use Rattle.spec_messages.specs.Limits.{Limit}
 use Rattle.spec_exchange.specs.AcceptRefusals as accepting
 use Rattle.spec_exchange.specs.SendingRefusals as sending
 use Rattle.spec_exchange.specs.Outside.{Fault, Cause, Own, Outside}
+use Rattle.spec_handshake.specs.Refusals as handshake
 
 pub data Refusal : Type 0 where
   -- no JSON value in UTF-8 that nests at most 127 deep
@@ -37,6 +38,8 @@ pub data Refusal : Type 0 where
   OfSending : (refusal : sending.Refusal) → Refusal
   OfReceiving : (refusal : accepting.Refusal) (report : Option Tree) → Refusal
   OfOutside : (fault : Fault) → Refusal
+  -- of a call of the handshake
+  OfHandshake : (refusal : handshake.Refusal) → Refusal
   SignerFailed : Refusal
 
 -- why a call comes to nothing, as a refusal of its event

@@ -110,6 +110,7 @@ holding records = record {
   sites = record { node = codes "A"; plmn = codes "00101" } ∷ record { node = codes "B"; plmn = codes "00102" } ∷ [];
   wire = null ∷ [];
   records = records;
+  starts = [];
 }
 
 -- the nodes A and B, and these documents on the wire
@@ -118,6 +119,7 @@ wired ts = record {
   sites = record { node = codes "A"; plmn = codes "00101" } ∷ record { node = codes "B"; plmn = codes "00102" } ∷ [];
   wire = ts;
   records = [];
+  starts = [];
 }
 
 abbrev pub opened : List Record

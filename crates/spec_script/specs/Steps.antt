@@ -1,5 +1,5 @@
 -- What the events of a script come to, in a state and under the choices of the outside (this project's own).
-use Rattle.std.specs.Prelude.{ℕ, zero, suc, ◌+◌, ℤ, pos, negsuc, Bool, not, ◌||◌, is_some, nat_le, List, [], ◌∷◌, ◌++◌, length, Option, Some, None, Result, Ok, Err, if◌then◌else◌, bytes_eq, slice_get, codes}
+use Rattle.std.specs.Prelude.{ℕ, zero, suc, ◌+◌, ℤ, pos, negsuc, Bool, not, ◌||◌, is_some, nat_le, List, [], ◌∷◌, ◌++◌, length, Option, Some, None, option_map, Result, Ok, Err, if◌then◌else◌, bytes_eq, slice_get, codes}
 use Rattle.spec_documents.specs.Tree.{Tree}
 use Rattle.spec_documents.specs.Compact.{compact_text}
 use Rattle.spec_messages.specs.Message.{Message, Kind, of_request, of_response, kind_of, wanted}
@@ -15,9 +15,15 @@ use Rattle.spec_exchange.specs.FirstFailed.{Delivery}
 use Rattle.spec_exchange.specs.Calls.{Sealed, Outgoing, Asks, Replies, sends}
 use Rattle.spec_exchange.specs.Screens.{Passes}
 use Rattle.spec_exchange.specs.AcceptCalls.{accepted}
-use Rattle.spec_script.specs.Refusals.{Refusal, BadEvent, NodeUnknown, NodeExists, WireUnknown, Beyond, KeysTwice, ContextNotFound, BadPolicy, ContextUsed, BadForm, BadReport, OfSending, OfReceiving, OfOutside, SignerFailed, of_cause}
+use Rattle.spec_handshake.specs.Documents.{Document, document_tree}
+use Rattle.spec_handshake.specs.Refusals as handshake
+use Rattle.spec_handshake.specs.Starts.{Offer, Start, without_node}
+use Rattle.spec_handshake.specs.Calls as calls
+use Rattle.spec_handshake.specs.Runs.{reply_document, next_document}
+use Rattle.spec_script.specs.Refusals.{Refusal, BadEvent, NodeUnknown, NodeExists, WireUnknown, Beyond, KeysTwice, ContextNotFound, BadPolicy, ContextUsed, BadForm, BadReport, OfSending, OfReceiving, OfOutside, OfHandshake, SignerFailed, of_cause}
 use Rattle.spec_script.specs.Messages.{message_in}
-use Rattle.spec_script.specs.Events.{HandedContext, Event, AddNode, AddContext, AddKeys, Send, Pass, Inject, Alter, Deliver, Restart, Reported, line_event}
+use Rattle.spec_script.specs.Events.{HandedContext, Event, AddNode, AddContext, AddKeys, Send, Pass, Inject, Alter, Deliver, Restart, Reported, StartWith, AnswerTo, FinishBy, Terminate, EndBy, line_event}
+use Rattle.spec_script.specs.Offers.{offer_of}
 use Rattle.spec_script.specs.Choices.{Signing, Signs, SignerFails, Choices, of_accepting}
 use Rattle.spec_script.specs.Altering.{altered}
 use Rattle.spec_script.specs.Reports.{report_on}
@@ -30,11 +36,12 @@ pub record Site : Type 0 where
   pub node : List ℕ
   pub plmn : List ℕ
 
--- the nodes, the documents on the wire, and the records that are held
+-- the nodes, the documents on the wire, the records that are held, and the starts of handshakes that wait
 pub record State : Type 0 where
   pub sites : List Site
   pub wire : List Tree
   pub records : List Record
+  pub starts : List Start
 
 pub data Answer : Type 0 where
   -- the event of that name is done
@@ -48,55 +55,58 @@ pub data Answer : Type 0 where
   Delivers : (delivery : Delivery) → Answer
   -- what a report says
   Reports : (report : Report) → Answer
+  -- the document with which a context of that id opens, and its number on the wire; and the id of a context that opens by itself
+  Opens : (document : Tree) (number : ℕ) (id : ℕ) → Answer
+  OpensAs : (id : ℕ) → Answer
+  -- a handshake ends by the choice of TLS
+  EndsTls : Answer
   Refuses : (refusal : Refusal) → Answer
 
--- the answer, the record that is held more, the document that goes last on the wire, and the nodes
+-- the answer, the record that is held more, the document that goes last on the wire, the nodes, and the starts that wait
 pub record Step : Type 0 where
   pub answer : Answer
   pub put : Option Record
   pub sent : Option Tree
   pub sites : List Site
+  pub starts : List Start
 
 abbrev pub with_sent : List Tree → Option Tree → List Tree
 with_sent wire None = wire
 with_sent wire (Some t) = wire ++ t ∷ []
 
 abbrev pub after : State → Step → State
-after s r = record { sites = r.sites; wire = with_sent s.wire r.sent; records = with_put s.records r.put }
+after s r = record { sites = r.sites; wire = with_sent s.wire r.sent; records = with_put s.records r.put; starts = r.starts }
 
 -- ---- steps
 
 abbrev pub refuses : State → Refusal → Step
-refuses s e = record { answer = Refuses e; put = None; sent = None; sites = s.sites }
+refuses s e = record { answer = Refuses e; put = None; sent = None; sites = s.sites; starts = s.starts }
 
 abbrev pub or_refuses : State → Result Step Refusal → Step
 or_refuses s (Ok r) = r
 or_refuses s (Err e) = refuses s e
-
-abbrev pub does : State → List ℕ → Step
-does s name = record { answer = Fine name; put = None; sent = None; sites = s.sites }
 
 -- the wire counts from 1
 abbrev pub next_number : State → ℕ
 next_number s = length s.wire + 1
 
 abbrev pub injects : State → Tree → Step
-injects s t = record { answer = OnWire (next_number s); put = None; sent = Some t; sites = s.sites }
+injects s t = record { answer = OnWire (next_number s); put = None; sent = Some t; sites = s.sites; starts = s.starts }
 
 abbrev pub forwards : State → Tree → Step
-forwards s t = record { answer = Forwards t (next_number s); put = None; sent = Some t; sites = s.sites }
+forwards s t = record { answer = Forwards t (next_number s); put = None; sent = Some t; sites = s.sites; starts = s.starts }
 
 abbrev pub reports : State → Report → Step
-reports s r = record { answer = Reports r; put = None; sent = None; sites = s.sites }
+reports s r = record { answer = Reports r; put = None; sent = None; sites = s.sites; starts = s.starts }
 
 abbrev pub adds_node : State → (node plmn : List ℕ) → Step
-adds_node s node plmn = record { answer = Fine (codes "node"); put = None; sent = None; sites = s.sites ++ record { node = node; plmn = plmn } ∷ [] }
+adds_node s node plmn = record { answer = Fine (codes "node"); put = None; sent = None; sites = s.sites ++ record { node = node; plmn = plmn } ∷ []; starts = s.starts }
 
 -- the event of that name is done once its record is put. A put that fails may have kept the record
 abbrev pub puts : State → Putting → List ℕ → Record → Step
-puts s Kept name r = record { answer = Fine name; put = Some r; sent = None; sites = s.sites }
+puts s Kept name r = record { answer = Fine name; put = Some r; sent = None; sites = s.sites; starts = s.starts }
 puts s Lost name r = refuses s (OfOutside Keeper)
-puts s KeptUntold name r = record { answer = Refuses (OfOutside Keeper); put = Some r; sent = None; sites = s.sites }
+puts s KeptUntold name r = record { answer = Refuses (OfOutside Keeper); put = Some r; sent = None; sites = s.sites; starts = s.starts }
 
 abbrev pub sealed_answer : ℕ → Result Sealed (Cause sending.Refusal) → Answer
 sealed_answer number (Ok x) = Sends x number
@@ -107,7 +117,7 @@ sealed_sent (Ok x) = Some x.document
 sealed_sent (Err e) = None
 
 abbrev pub sends_sealed : State → Outcome sending.Refusal Sealed → Step
-sends_sealed s o = record { answer = sealed_answer (next_number s) o.result; put = o.put; sent = sealed_sent o.result; sites = s.sites }
+sends_sealed s o = record { answer = sealed_answer (next_number s) o.result; put = o.put; sent = sealed_sent o.result; sites = s.sites; starts = s.starts }
 
 -- a refusal of the document t is told with its report
 abbrev pub delivery_answer : Tree → Result Delivery (Cause accepting.Refusal) → Answer
@@ -115,7 +125,50 @@ delivery_answer t (Ok d) = Delivers d
 delivery_answer t (Err e) = Refuses (of_cause (λ r. OfReceiving r (report_on t r)) e)
 
 abbrev pub delivers : State → Tree → Outcome accepting.Refusal Delivery → Step
-delivers s t o = record { answer = delivery_answer t o.result; put = o.put; sent = None; sites = s.sites }
+delivers s t o = record { answer = delivery_answer t o.result; put = o.put; sent = None; sites = s.sites; starts = s.starts }
+
+-- the node's starts are dropped
+abbrev pub restarts : State → List ℕ → Step
+restarts s node = record { answer = Fine (codes "restart"); put = None; sent = None; sites = s.sites; starts = without_node node s.starts }
+
+-- ---- what a call of the handshake comes to
+
+abbrev pub call_answer : {T : Type 0} → (T → Answer) → Result T (Cause handshake.Refusal) → Answer
+call_answer told (Ok x) = told x
+call_answer told (Err e) = Refuses (of_cause OfHandshake e)
+
+abbrev pub call_sent : {T : Type 0} → (T → Option Document) → Result T (Cause handshake.Refusal) → Option Tree
+call_sent made (Ok x) = option_map document_tree (made x)
+call_sent made (Err e) = None
+
+-- with what it answers, the document that it makes, and the starts that wait then
+abbrev pub shakes : {T : Type 0} → State → (T → Answer) → (T → Option Document) → List Start → Outcome handshake.Refusal T → Step
+shakes s told made starts o = record { answer = call_answer told o.result; put = o.put; sent = call_sent made o.result; sites = s.sites; starts = starts }
+
+abbrev pub replied_answer : ℕ → calls.Replied → Answer
+replied_answer number (calls.Chose d) = Forwards (document_tree d) number
+replied_answer number (calls.OpenedBy d x) = Opens (document_tree d) number x.id
+
+abbrev pub finished_answer : ℕ → calls.Finished → Answer
+finished_answer number (calls.Next d) = Forwards (document_tree d) number
+finished_answer number (calls.OpenedAs x) = OpensAs x.id
+finished_answer number calls.EndedTls = EndsTls
+
+abbrev pub starts_with : State → Choice → (node peer : List ℕ) → Offer → Step
+starts_with s f node peer offer =
+    let o = calls.start f s.records node offer in
+    shakes s (λ d. Forwards (document_tree d) (next_number s)) Some (calls.after_start s.starts node peer offer o.result) o
+
+abbrev pub answers_to : State → Choice → (node plmn : List ℕ) → Offer → Tree → Step
+answers_to s f node plmn offer t = shakes s (replied_answer (next_number s)) reply_document s.starts (calls.answer f s.records node plmn offer t)
+
+abbrev pub finishes_by : State → Choice → (node plmn : List ℕ) → Tree → Step
+finishes_by s f node plmn t =
+    let o = calls.finish f s.records s.starts node plmn t in
+    shakes s (finished_answer (next_number s)) next_document (calls.after_finish f.reading s.starts node t o.result) o
+
+abbrev pub closes : State → Outcome handshake.Refusal calls.Closing → Step
+closes s o = shakes s (λ c. Forwards (document_tree c.document) (next_number s)) (λ c. Some c.document) s.starts o
 
 -- ---- checks
 
@@ -241,11 +294,36 @@ checked passes s f (Deliver node number) = do
   Ok (delivers s t (accepted passes (of_accepting f) s.records node t))
 checked passes s f (Restart node) = do
   _ ← known_node s node
-  Ok (does s (codes "restart"))
+  Ok (restarts s node)
 checked passes s f (Reported node t) = do
   _ ← known_node s node
   r ← or_refused (λ none. BadReport) (report_in t)
   Ok (reports s r)
+checked passes s f (StartWith node peer x) = do
+  _ ← known_node s node
+  _ ← room_on_wire s
+  policy ← policy_to_hold x.policy
+  Ok (starts_with s f.keeper node peer (offer_of x policy))
+checked passes s f (AnswerTo node number x) = do
+  plmn ← known_node s node
+  t ← known_document s number
+  _ ← room_on_wire s
+  policy ← policy_to_hold x.policy
+  Ok (answers_to s f.keeper node plmn (offer_of x policy) t)
+checked passes s f (FinishBy node number) = do
+  plmn ← known_node s node
+  t ← known_document s number
+  _ ← room_on_wire s
+  Ok (finishes_by s f.keeper node plmn t)
+checked passes s f (Terminate node id) = do
+  _ ← known_node s node
+  _ ← room_on_wire s
+  Ok (closes s (calls.terminate f.keeper s.records node id))
+checked passes s f (EndBy node number) = do
+  _ ← known_node s node
+  t ← known_document s number
+  _ ← room_on_wire s
+  Ok (closes s (calls.ended f.keeper s.records node t))
 
 abbrev pub step : Passes → State → Choices → Event → Step
 step passes s f e = or_refuses s (checked passes s f e)

@@ -86,12 +86,12 @@ pub fn context_rows()
     ensures used { (row_step (holding opened) well (AddContext (handed_with policy_document))).answer ≡ Refuses ContextUsed }
     ensures policy { (row_step (holding opened) bad_record (AddContext (handed_with null))).answer ≡ Refuses (BadPolicy 0) }
     ensures journal { (row_step (holding opened) bad_record (AddContext (handed_with policy_document))).answer ≡ Refuses (OfOutside (Journal 2)) }
-    ensures keys { row_step (holding opened) well (AddKeys (codes "A") 161 (keys_from 3)) ≡ record { answer = Fine (codes "keys"); put = Some (Keyed (codes "A") 161 (keys_from 3)); sent = None; sites = (holding []).sites } }
+    ensures keys { row_step (holding opened) well (AddKeys (codes "A") 161 (keys_from 3)) ≡ record { answer = Fine (codes "keys"); put = Some (Keyed (codes "A") 161 (keys_from 3)); sent = None; sites = (holding []).sites; starts = [] } }
     ensures twice { (row_step (holding keyed) well (AddKeys (codes "A") 161 (keys_from 3))).answer ≡ Refuses KeysTwice }
     ensures twice_unfit { (row_step (holding keyed) well (AddKeys (codes "A") 161 unfit_keys)).answer ≡ Refuses KeysTwice }
     ensures unfit { (row_step (holding opened) well (AddKeys (codes "A") 161 unfit_keys)).answer ≡ Refuses (BadEvent (codes "key")) }
     ensures none { (row_step (holding opened) well (AddKeys (codes "B") 161 (keys_from 3))).answer ≡ Refuses ContextNotFound }
-    ensures untold { row_step (holding opened) untold (AddKeys (codes "A") 161 (keys_from 3)) ≡ record { answer = Refuses (OfOutside Keeper); put = Some (Keyed (codes "A") 161 (keys_from 3)); sent = None; sites = (holding []).sites } }
+    ensures untold { row_step (holding opened) untold (AddKeys (codes "A") 161 (keys_from 3)) ≡ record { answer = Refuses (OfOutside Keeper); put = Some (Keyed (codes "A") 161 (keys_from 3)); sent = None; sites = (holding []).sites; starts = [] } }
 {}
 
 /// Where no record more may be held, this is told before the keeper is asked, and after what the records tell.
@@ -140,7 +140,7 @@ pub fn alter_rows()
 /// failure of the verifier is told without a report, and a message that the screen doesn't pass with one.
 pub fn delivery_rows()
     ensures delivered { (t : Tree) (d : Delivery) → first_failed passes_all (by_meaning takes_all None) [] (codes "B") t ≡ Ok d →
-        row_step (wired (t ∷ [])) well (Deliver (codes "B") (pos 1)) ≡ record { answer = Delivers d; put = Some (delivered_record d); sent = None; sites = (wired []).sites } }
+        row_step (wired (t ∷ [])) well (Deliver (codes "B") (pos 1)) ≡ record { answer = Delivers d; put = Some (delivered_record d); sent = None; sites = (wired []).sites; starts = [] } }
     ensures verifier { (t : Tree) → first_failed passes_all fails_first [] (codes "B") t ≡ Err (OfEntry 1 entry.VerifierFailed) →
         row_step (wired (t ∷ [])) unverified (Deliver (codes "B") (pos 1)) ≡ refuses (wired (t ∷ [])) (OfReceiving (OfEntry 1 entry.VerifierFailed) (report_on t (OfEntry 1 entry.VerifierFailed))) }
     ensures screen { (t : Tree) → first_failed passes_none (by_meaning takes_all None) [] (codes "B") t ≡ Err Screened →

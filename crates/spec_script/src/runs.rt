@@ -8,9 +8,9 @@ ghost use Rattle.spec_script.specs.Choices.{Choices, Meanings, IsBy, unfailing};
 ghost use Rattle.spec_exchange.specs.Calls.{Sealed};
 ghost use Rattle.spec_exchange.specs.Screens.{Passes};
 ghost use Rattle.spec_documents.specs.Lines.{is_blank, Outputs};
-ghost use Rattle.spec_script.specs.Steps.{State, Answer, OnWire, Sends, Forwards, Refuses, after, wire_at, line_step};
+ghost use Rattle.spec_script.specs.Steps.{State, Answer, OnWire, Sends, Forwards, Opens, Refuses, after, wire_at, line_step};
 ghost use Rattle.spec_script.specs.Refusals.{Refusal};
-ghost use Rattle.spec_script.specs.Output.{Answers, Answered, Numbered, answers_text, GivesAnswer, delivers, numbers, has_refusal, is_keeper_refusal, is_outside_refusal, RoseBy, HaveCauses, count_after};
+ghost use Rattle.spec_script.specs.Output.{Answers, Answered, Numbered, answers_text, GivesAnswer, delivers, numbers, has_refusal, is_keeper_refusal, is_outside_refusal, is_ending_refusal, LosesOne, RoseBy, HaveCauses, count_after};
 
 /// In a run each message is delivered at most once, and none that was delivered before it.
 pub fn delivered_at_most_once()
@@ -40,11 +40,13 @@ pub fn records_grow()
         (more : List Record) × (last.records ≡ s.records ++ more) × (length more ≤ length answers) }
 {}
 
-/// A refusal leaves the nodes and the wire as they are, and the records too, but for a failed put that may have kept its record.
+/// A refusal leaves the nodes and the wire as they are, and the records too, but for a failed put that may have kept its record. At most one start waits no longer then, and none but after a failed put or where the sides of a handshake don't agree.
 pub fn refusal_changes_nothing()
-    ensures state { (passes : Passes) (s : State) (f : Choices) (line : List ℕ) (e : Refusal) → (line_step passes s f line).answer ≡ Refuses e → is_keeper_refusal e ≡ false → after s (line_step passes s f line) ≡ s }
+    ensures state { (passes : Passes) (s : State) (f : Choices) (line : List ℕ) (e : Refusal) → (line_step passes s f line).answer ≡ Refuses e → is_keeper_refusal e ≡ false → is_ending_refusal e ≡ false → after s (line_step passes s f line) ≡ s }
     ensures sites { (passes : Passes) (s : State) (f : Choices) (line : List ℕ) (e : Refusal) → (line_step passes s f line).answer ≡ Refuses e → (after s (line_step passes s f line)).sites ≡ s.sites }
     ensures wire { (passes : Passes) (s : State) (f : Choices) (line : List ℕ) (e : Refusal) → (line_step passes s f line).answer ≡ Refuses e → (after s (line_step passes s f line)).wire ≡ s.wire }
+    ensures records { (passes : Passes) (s : State) (f : Choices) (line : List ℕ) (e : Refusal) → (line_step passes s f line).answer ≡ Refuses e → is_keeper_refusal e ≡ false → (after s (line_step passes s f line)).records ≡ s.records }
+    ensures starts { (passes : Passes) (s : State) (f : Choices) (line : List ℕ) (e : Refusal) → (line_step passes s f line).answer ≡ Refuses e → LosesOne s.starts (after s (line_step passes s f line)).starts }
 {}
 
 /// A document goes last on the wire, and the number that is answered is its place there.
@@ -54,6 +56,8 @@ pub fn wire_goes_on()
     ensures injected { (passes : Passes) (s : State) (f : Choices) (line : List ℕ) (k : ℕ) → (line_step passes s f line).answer ≡ OnWire k →
         (t : Tree) × ((after s (line_step passes s f line)).wire ≡ s.wire ++ t ∷ []) × (wire_at (after s (line_step passes s f line)).wire (pos k) ≡ Some t) }
     ensures forwarded { (passes : Passes) (s : State) (f : Choices) (line : List ℕ) (t : Tree) (k : ℕ) → (line_step passes s f line).answer ≡ Forwards t k →
+        ((after s (line_step passes s f line)).wire ≡ s.wire ++ t ∷ []) × (wire_at (after s (line_step passes s f line)).wire (pos k) ≡ Some t) }
+    ensures opened { (passes : Passes) (s : State) (f : Choices) (line : List ℕ) (t : Tree) (k id : ℕ) → (line_step passes s f line).answer ≡ Opens t k id →
         ((after s (line_step passes s f line)).wire ≡ s.wire ++ t ∷ []) × (wire_at (after s (line_step passes s f line)).wire (pos k) ≡ Some t) }
 {}
 

@@ -11,6 +11,7 @@ use jws_flat::Hs256;
 use message_screens::{OriginRule, Screen};
 use n32_outside::Keeper;
 use n32_values::{Doc, DocList, NoMemory, PlmnId, Text, depth, read_doc, read_plmn, text_length};
+use n32c_handshake::Hands;
 use replay_world::{Site, SiteList, World, new_world, step};
 use std::alloc::Global;
 
@@ -147,6 +148,7 @@ fn world(alloc: Global, store: Store) -> Option<World>
         wire: wire(alloc, document)?,
         wire_bytes,
         store,
+        hands: Hands::new(alloc),
     })
 }
 

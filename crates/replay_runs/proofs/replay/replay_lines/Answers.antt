@@ -12,7 +12,7 @@ pub returns-clause-theorem : goal.returns-clause-theorem
 returns-clause-theorem g c =
     means_any (meanings_told (g.G.Signer.algorithm c.args.signer.now) (g.G.Signer.meaning c.args.signer.now) (g.V.Verifier.meaning c.args.verifier.now) (g.R.ScreenRule.passes (rule_of c.args.screen.now))) _ λ means is.
     leaves_lent means (λ m. told (g.K.Keeper.held m.keeper.now) (g.K.Keeper.faults m.keeper.now) (outsiders (g.G.Signer.algorithm m.signer.now) (g.G.Signer.meaning m.signer.now) (g.G.Signer.faults m.signer.now) (g.V.Verifier.meaning m.verifier.now) (g.V.Verifier.faults m.verifier.now) (g.R.ScreenRule.passes (rule_of m.screen.now)))) (λ m. m.world.now) _ (g.S.Source.left c.args.source.now) _ _ c.run.new.machine c.args.world.now.store.records _ _ _ _ _ _
-    is c.requires.held c.requires.few (λ records. begins_of c.args.world.now records c.requires.sites c.requires.wire) (λ a b n line h. h) (grind (arith, common_steps)) (same_counts (grind (arith, common_steps)) (grind (arith, common_steps)) (grind (arith, common_steps))) c.from.ensures c.run.ensures.script
+    is c.requires.held c.requires.few (λ records. begins_of c.args.world.now records c.requires.sites c.requires.wire c.requires.hands) (λ a b n line h. h) (grind (arith, common_steps)) (same_counts (grind (arith, common_steps)) (grind (arith, common_steps)) (grind (arith, common_steps))) c.from.ensures c.run.ensures.script
 
 pub returns-clause-complete : goal.returns-clause-complete
 returns-clause-complete g c = complete_told (g.S.Source.left c.args.source.now) _ _ c.run.result c.from.result c.from.ensures c.run.ensures.read_fault c.run.ensures.write_fault c.run.ensures.complete

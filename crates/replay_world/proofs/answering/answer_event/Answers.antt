@@ -31,3 +31,18 @@ returns-in-Deliver-clause-handles g c = rw c.in-Deliver.is (acted_verifying _ _ 
 
 pub returns-in-Pass-clause-handles : goal.returns-in-Pass-clause-handles
 returns-in-Pass-clause-handles g c = rw c.in-Pass.is (acted_signing _ _ _ (signed_on _ _ _ _ (λ x h v. h (g.K.Keeper.held c.args.keeper.now) (g.K.Keeper.faults c.args.keeper.now) c.requires.ready.consistent) c.pass.ensures.handles))
+
+pub returns-in-Start-clause-handles : goal.returns-in-Start-clause-handles
+returns-in-Start-clause-handles g c = rw c.in-Start.is (acted_any _ _ _ λ x. c.start.ensures)
+
+pub returns-in-Answer-clause-handles : goal.returns-in-Answer-clause-handles
+returns-in-Answer-clause-handles g c = rw c.in-Answer.is (acted_any _ _ _ λ x. c.answer.ensures)
+
+pub returns-in-Finish-clause-handles : goal.returns-in-Finish-clause-handles
+returns-in-Finish-clause-handles g c = rw c.in-Finish.is (acted_any _ _ _ λ x. c.finish.ensures)
+
+pub returns-in-Terminate-clause-handles : goal.returns-in-Terminate-clause-handles
+returns-in-Terminate-clause-handles g c = rw c.in-Terminate.is (acted_any _ _ _ λ x. c.terminate.ensures)
+
+pub returns-in-Ended-clause-handles : goal.returns-in-Ended-clause-handles
+returns-in-Ended-clause-handles g c = rw c.in-Ended.is (acted_any _ _ _ λ x. c.ended.ensures)

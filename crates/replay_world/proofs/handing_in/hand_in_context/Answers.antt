@@ -44,7 +44,7 @@ returns-in-Err-refresh g c =
     rw c.unread.ensures (record {
       comes = comes_unread (unasked (AddContext (handed_view c.args.handed))) (opens_rest (context_view c.in-Ok.context)) (g.K.Keeper.held c.args.keeper.now) (g.K.Keeper.held c.refresh.new.keeper) c.args.world.now _ c.args.number c.in-Err-refresh.fault
           (λ records f. opens_context all_pass (state_of c.args.world.now records) (by idle f) (handed_view c.args.handed) (context_view c.in-Ok.context) known c.in-Ok.ensures.gives)
-          (λ e. let read = (c.refresh.ensures.idle e).0 in cc (read, c.in-Err-refresh.is)) c.in-Err-refresh.ensures.stale c.in-Err-refresh.ensures.journal c.refresh.ensures.same refl refl;
+          (λ e. let read = (c.refresh.ensures.idle e).0 in cc (read, c.in-Err-refresh.is)) c.in-Err-refresh.ensures.stale c.in-Err-refresh.ensures.journal c.refresh.ensures.same refl refl refl;
       ready = record { consistent = c.in-Err-refresh.ensures.consistent; sound = record { nodes = c.requires.ready.sound.nodes; wire = c.requires.ready.sound.wire; bytes = c.requires.ready.sound.bytes } };
       later = c.in-Err-refresh.ensures.later;
       failed = λ e. c.in-Err-refresh.ensures.failed (rw (unread_keeper c.in-Err-refresh.fault e) refl);

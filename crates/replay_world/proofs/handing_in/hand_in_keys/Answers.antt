@@ -32,7 +32,7 @@ returns-in-Err g c =
     rw c.unread.ensures (record {
       comes = comes_unread (unasked (AddKeys c.args.node c.args.id.value (key_set_view c.args.keys))) (keys_rest c.args.node c.args.id.value (key_set_view c.args.keys)) (g.K.Keeper.held c.args.keeper.now) (g.K.Keeper.held c.refresh.new.keeper) c.args.world.now _ c.args.number c.in-Err.fault
           (λ records f. takes_keys all_pass (state_of c.args.world.now records) (by idle f) c.args.node c.args.id.value (key_set_view c.args.keys) known)
-          (λ e. let read = (c.refresh.ensures.idle e).0 in cc (read, c.in-Err.is)) c.in-Err.ensures.stale c.in-Err.ensures.journal c.refresh.ensures.same refl refl;
+          (λ e. let read = (c.refresh.ensures.idle e).0 in cc (read, c.in-Err.is)) c.in-Err.ensures.stale c.in-Err.ensures.journal c.refresh.ensures.same refl refl refl;
       ready = record { consistent = c.in-Err.ensures.consistent; sound = record { nodes = c.requires.ready.sound.nodes; wire = c.requires.ready.sound.wire; bytes = c.requires.ready.sound.bytes } };
       later = c.in-Err.ensures.later;
       failed = λ e. c.in-Err.ensures.failed (rw (unread_keeper c.in-Err.fault e) refl);

@@ -20,7 +20,7 @@ pub returns : goal.returns
 returns c =
     let unknown : is_some (spec.plmn_at (sites_view c.args.world.now.sites) c.args.node) ≡ false = cc in
     alone_done (unasked (AddNode c.args.node c.args.plmn)) c.args.world.now _ c.args.number c.in_ok-text.text
-    (idles_added c.args.world.now _ c.args.number c.in_ok-text.text (record { node = c.args.node; plmn = c.args.plmn }) unknown c.in_ok-text.ensures c.in_ok-push.ensures.ok refl (stays_itself c.args.world.now.store))
+    (idles_added c.args.world.now _ c.args.number c.in_ok-text.text (record { node = c.args.node; plmn = c.args.plmn }) unknown c.in_ok-text.ensures c.in_ok-push.ensures.ok refl refl (stays_itself c.args.world.now.store))
     (record {
       nodes = rw (sites_more c.args.world.now.sites c.push.new.self (record { node = c.args.node; plmn = c.args.plmn }) c.in_ok-push.ensures.ok) (distinct_more (sites_view c.args.world.now.sites) (record { node = c.args.node; plmn = c.args.plmn }) c.requires.nodes unknown);
       wire = c.requires.wire;

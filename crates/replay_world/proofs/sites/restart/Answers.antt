@@ -19,5 +19,5 @@ pub returns : goal.returns
 returns c =
     let known : is_some (spec.plmn_at (sites_view c.args.world.now.sites) c.args.node.now) ≡ true = cc in
     alone_done (unasked (Restart c.args.node.now)) c.args.world.now _ c.args.number c.in_ok-text.text
-    (idles_restarted c.args.world.now _ c.args.number c.in_ok-text.text c.args.node.now known c.in_ok-text.ensures refl refl (forgotten c.args.world.now.store c.forget.new.self c.forget.ensures.records c.forget.ensures.stale))
+    (idles_restarted c.args.world.now _ c.args.number c.in_ok-text.text c.args.node.now known c.in_ok-text.ensures refl c.drop_node.ensures refl (forgotten c.args.world.now.store c.forget.new.self c.forget.ensures.records c.forget.ensures.stale))
     (record { nodes = c.requires.nodes; wire = c.requires.wire; bytes = c.requires.bytes })

@@ -45,7 +45,7 @@ returns-in-Ok-delivered_text-clause-handles g c =
     let found : spec.wire_at c.args.world.now.wire c.args.wire.now ≡ Some c.in-Some.document.now = sym c.in-Some.ensures in
     under_on _ _ _ _ _ (λ v h. record {
       comes = comes_delivered (g.R.ScreenRule.passes (rule_of c.args.screen.now)) v (event_steps (g.R.ScreenRule.passes (rule_of c.args.screen.now)) (only_verifies v) (Deliver c.args.node.now c.args.wire.now)) (g.K.Keeper.held c.args.keeper.now) (g.K.Keeper.held c.accept.new.keeper) c.args.world.now _ c.args.number _ c.args.node.now c.in-Some.document.now c.in-Ok.delivered
-          h (λ records f. delivers_document (g.R.ScreenRule.passes (rule_of c.args.screen.now)) (state_of c.args.world.now records) (by (only_verifies v) f) c.args.node.now c.args.wire.now c.in-Some.document.now known found) refl refl c.in-Ok-delivered_text.ensures;
+          h (λ records f. delivers_document (g.R.ScreenRule.passes (rule_of c.args.screen.now)) (state_of c.args.world.now records) (by (only_verifies v) f) c.args.node.now c.args.wire.now c.in-Some.document.now known found) refl refl refl c.in-Ok-delivered_text.ensures;
       ready = record { consistent = c.in-Ok.ensures.consistent; sound = record { nodes = c.requires.ready.sound.nodes; wire = c.requires.ready.sound.wire; bytes = c.requires.ready.sound.bytes } };
       later = c.in-Ok.ensures.later;
       failed = λ e. cc;
@@ -57,6 +57,6 @@ returns-in-Err-clause-handles g c =
     let found : spec.wire_at c.args.world.now.wire c.args.wire.now ≡ Some c.in-Some.document.now = sym c.in-Some.ensures in
     under_on _ _ _ _ _ (λ v h. handles_undelivered (g.R.ScreenRule.passes (rule_of c.args.screen.now)) v (event_steps (g.R.ScreenRule.passes (rule_of c.args.screen.now)) (only_verifies v) (Deliver c.args.node.now c.args.wire.now)) (g.K.Keeper.held c.args.keeper.now) (g.K.Keeper.held c.accept.new.keeper) (g.K.Keeper.faults c.args.keeper.now) (g.K.Keeper.faults c.accept.new.keeper) c.args.world.now _ c.args.number c.args.node.now c.in-Some.document.now c.in-Err.fault c.undelivered.result
     c.undelivered.ensures h
-    (λ records f. delivers_document (g.R.ScreenRule.passes (rule_of c.args.screen.now)) (state_of c.args.world.now records) (by (only_verifies v) f) c.args.node.now c.args.wire.now c.in-Some.document.now known found) refl refl
+    (λ records f. delivers_document (g.R.ScreenRule.passes (rule_of c.args.screen.now)) (state_of c.args.world.now records) (by (only_verifies v) f) c.args.node.now c.args.wire.now c.in-Some.document.now known found) refl refl refl
     (record { consistent = c.in-Err.ensures.consistent; sound = record { nodes = c.requires.ready.sound.nodes; wire = c.requires.ready.sound.wire; bytes = c.requires.ready.sound.bytes } })
     c.in-Err.ensures.later (λ e. c.in-Err.ensures.failed (rw e refl))) c.in-Err.ensures.accepts
