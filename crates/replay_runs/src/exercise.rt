@@ -42,6 +42,7 @@ fn play_script<
     requires follows { IsScreen F.Fn R.passes screen.now }
     requires sites { world.old.sites ≡ [] }
     requires wire { world.old.wire ≡ [] }
+    requires hands { world.old.hands ≡ [] }
     requires held { Holds (K.held keeper.old) world.old.store.records }
     requires few { length world.old.store.records ≤ record_limit }
     ensures summary { IfSome (meanings_told (G.algorithm signer.old) (G.meaning signer.old) (V.meaning verifier.old) (R.passes (rule_of screen.now))) (λ means. OverRecords (K.held keeper.old) (λ records.
