@@ -540,7 +540,11 @@ fn is_told(alloc: Global, status: Status, text: &str) -> bool {
 fn statuses_have_their_texts(rt: HostRuntime) {
     for (status, text, number) in [
         (Status::Done, "", 0),
-        (Status::Words, "usage: n32_replay blocks | replay [FILE] | exercise N", 2),
+        (
+            Status::Words,
+            "usage: n32_replay blocks | replay [FILE] | exercise N",
+            2,
+        ),
         (Status::ReadFault, "n32_replay: read fault", 3),
         (Status::WriteFault, "n32_replay: write fault", 4),
         (Status::LineTooLong(7), "n32_replay: line 7 too long", 5),
