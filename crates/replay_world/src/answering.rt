@@ -156,7 +156,7 @@ fn text_of_answer<
 /// comes only where the keeper failed in this call, and the store was stale or every other check holds; its record
 /// may then be held or not. `JOURNAL` comes only where a stale store is read. `SIGNER` comes only where the signer
 /// failed in this call, and `VERIFIER` only where the verifier did. After any other refusal than `KEEPER` the world and
-/// what is held are as before.
+/// what is held are as before, but that a start may wait no longer where the sides of a handshake don't agree.
 ///
 /// # Errors
 /// `NoMemory` leaves the nodes and the wire as they were, and the records as they were or with the event's one record.
