@@ -23,9 +23,6 @@ member_deeper d fs i k t e = rw (drop_at fs i (k, t) e) (deeper d (open_depth t)
 abbrev pub value_of : Tree → Tree
 value_of t = member_or_null (codes "value") (members_of t)
 
-abbrev pub item_depth : Tree → ℕ
-item_depth t = length (or_root (path_of t)) + open_depth (value_of t)
-
 over_max : (len od r n d : ℕ) → n ≡ len → d ≡ min od 4294967295 → 64 < min (d + n) 18446744073709551615 → nat_lt 64 (max (len + od) r) ≡ true
 over_max len od r n d g h over = lt-ltb 64 (max (len + od) r) (omega arith)
 

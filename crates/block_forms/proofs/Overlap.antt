@@ -312,13 +312,6 @@ passed_earlier whole found e f es h under le =
       once = once_tail e (f ∷ es) h.once;
     }
 
-or_nothing : (a : Bool) → (a || false) ≡ a
-or_nothing true = refl
-or_nothing false = refl
-
-pub passed_end : (whole : List (ℕ × Pointer)) (found : Option ℕ) (e : ℕ × Pointer) → Passed whole found (e ∷ []) → IsFirst found whole
-passed_end whole found e h k = sym (ap (λ b. is_within k found || b) (aside k e [] tt) ∙ or_nothing (is_within k found)) ∙ h.told k
-
 -- ---- the items in the order of their numbers
 
 past_all : (k j : ℕ) (ps : List Pointer) (es : List (ℕ × Pointer)) → k < j → overlap_by k (numbered j ps ++ es) ≡ overlap_by k es

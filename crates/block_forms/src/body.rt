@@ -9,6 +9,7 @@ ghost use Rattle.block_forms.specs.Kept.{items_with, payload_of};
 ghost use Rattle.block_forms.specs.Paths.{paths_of};
 
 use crate::parts::list_at;
+use doc_forms::{lifted, members_in};
 use json_ptr::Pointer;
 use n32_values::{Doc, List, NoMemory, Node, NodeList, NodeMap, Text, copy_doc};
 use std::alloc::Global;
@@ -17,27 +18,6 @@ fn empty_object(alloc: Global) -> Node
     ensures { tree_of result ≡ members no_members }
 {
     Node::Members(NodeMap::new(alloc))
-}
-
-// The members of an object, and none of another node.
-fn members_in(alloc: Global, node: Node) -> NodeMap
-    ensures { result ≡ spec.members_of (tree_of node) }
-{
-    match node {
-        Node::Members(map) => map,
-        _ => NodeMap::new(alloc),
-    }
-}
-
-// Takes a member out, and leaves a null in its place. Where there is none an empty object is given.
-fn lifted(alloc: Global, map: &mut NodeMap, name: &Text) -> Result<Node, NoMemory>
-    ensures node { IfOk result (λ n. tree_of n ≡ spec.or_empty_object (get_member name.now map.old)) }
-    ensures map { OnOk result (map.new ≡ put_member name.now null map.old) }
-{
-    match map.put(name.copy(alloc)?, Node::Null)? {
-        Some(node) => Ok(node),
-        None => Ok(empty_object(alloc)),
-    }
 }
 
 // The node with a value at the tokens of a path from one place on, through objects that are made where

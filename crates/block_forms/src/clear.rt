@@ -7,14 +7,16 @@ ghost use Rattle.spec_messages.specs.Fault.{block_fault};
 ghost use Rattle.n32_values.specs.View.{tree_of};
 ghost use Rattle.http_message.specs.Forms.{parts_of};
 ghost use Rattle.http_message.specs.Reading.{header_view, message_view};
-ghost use Rattle.block_forms.specs.Kept.{ReadsParts};
+ghost use Rattle.block_forms.specs.Kept.{ReadsHead, payload_of};
+ghost use Rattle.block_forms.specs.Paths.{paths_of};
 
 use crate::block::Block;
 use crate::body::clear_body;
 use crate::fault::{BlockParts, BlockRead, read_parts};
 use crate::laws::blocks_are_read;
-use http_message::{Form, HeaderList, Message, MessageRead, read_headers};
-use n32_values::{Doc, NoMemory, Node};
+use http_message::{Form, Head, HeaderList, Message, MessageRead, read_headers};
+use json_ptr::Pointer;
+use n32_values::{Doc, List, NoMemory, Node};
 use std::alloc::Global;
 
 fn member<'a>(doc: &'a Doc, name: &str) -> Option<&'a Node>
@@ -37,22 +39,24 @@ fn clear_headers(alloc: Global, doc: &Doc) -> Result<HeaderList, NoMemory>
     }
 }
 
-/// The message with holes of a block's document, of which these parts were read.
+/// The message with holes of a block's document, of which this line and these paths of items were read.
 pub(crate) fn message_of(
     alloc: Global,
     doc: &Doc,
     _count: u32,
-    parts: BlockParts,
+    head: Head,
+    paths: &List<Pointer>,
 ) -> Result<Message, NoMemory>
     requires right { block_fault doc.now _count ≡ None }
-    requires read { ReadsParts parts doc.now _count }
+    requires head { ReadsHead head doc.now }
+    requires paths { paths.now ≡ paths_of (payload_of doc.now) }
     ensures { IfOk result (λ m. message_of_block doc.now ≡ Some (message_view m)) }
 {
     blocks_are_read();
     let _ordered = doc.node();
     let headers = clear_headers(alloc, doc)?;
-    let body = clear_body(alloc, doc, &parts.payload.paths)?;
-    Ok(parts.head.into_message(headers, body))
+    let body = clear_body(alloc, doc, paths)?;
+    Ok(head.into_message(headers, body))
 }
 
 /// The message with holes that a block stands for: its line, its headers, and the least body that has
@@ -62,7 +66,9 @@ pub fn clear_message(alloc: Global, block: &Block) -> Result<Message, NoMemory>
 {
     let holes = block.holes();
     match read_parts(alloc, block.doc(), holes) {
-        Ok(parts) => message_of(alloc, block.doc(), holes, parts),
+        Ok(BlockParts { head, payload }) => {
+            message_of(alloc, block.doc(), holes, head, &payload.paths)
+        }
         Err(BlockRead::NoMemory) => Err(NoMemory),
         Err(BlockRead::Refused(_)) => unreachable!(),
     }

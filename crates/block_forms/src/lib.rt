@@ -22,4 +22,4 @@ pub use clear::clear_message;
 pub use fault::{BlockRead, BlockWhy, LimitName, block_fault, limit_name};
 pub use laws::values_are_few;
 pub use meta::{Meta, MetaRead, is_meta, meta_node, read_meta};
-pub use reading::{BlockReading, read_block};
+pub use reading::{BlockReading, OpenBlock, read_block};

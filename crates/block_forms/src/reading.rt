@@ -8,7 +8,7 @@ ghost use Rattle.block_forms.specs.Faults.{Refuses};
 
 use crate::block::Block;
 use crate::clear::message_of;
-use crate::fault::{BlockParts, BlockRead, read_parts};
+use crate::fault::{BlockParts, BlockRead, Payload, read_parts};
 use enc_index::Holes;
 use http_message::Message;
 use n32_values::{Doc, NoMemory};
@@ -22,6 +22,17 @@ pub struct BlockReading {
     doc: Doc,
     count: u32,
     parts: BlockParts,
+}
+
+/// A block with all that was read of it.
+#[derive(Drop)]
+pub struct OpenBlock {
+    /// The block.
+    pub block: Block,
+    /// The places of its holes, by the number of the value.
+    pub holes: Holes,
+    /// The message with holes that it stands for.
+    pub message: Message,
 }
 
 impl Model for BlockReading {
@@ -84,7 +95,29 @@ impl BlockReading {
         ensures { IfOk result (λ m. message_of_block self.0 ≡ Some (message_view m)) }
     {
         let BlockReading { doc, count, parts } = self;
-        message_of(alloc, &doc, count, parts)
+        let BlockParts { head, payload } = parts;
+        message_of(alloc, &doc, count, head, &payload.paths)
+    }
+
+    /// The block, the places of its holes by the number of the value, and the message with holes that the
+    /// block stands for. What was read is moved.
+    pub fn into_all(self, alloc: Global) -> Result<OpenBlock, NoMemory>
+        ensures block { IfOk result (λ o. o.block ≡ self.0) }
+        ensures right { IfOk result (λ o. spec.block_fault o.block self.1 ≡ None) }
+        ensures holes { IfOk result (λ o. places_of self.0 self.1 ≡ Ok o.holes) }
+        ensures message { IfOk result (λ o. message_of_block self.0 ≡ Some (message_view o.message)) }
+    {
+        let BlockReading { doc, count, parts } = self;
+        let BlockParts { head, payload } = parts;
+        let Payload { paths, holes } = payload;
+        match message_of(alloc, &doc, count, head, &paths) {
+            Ok(message) => Ok(OpenBlock {
+                block: Block::of_doc(doc, count),
+                holes,
+                message,
+            }),
+            Err(refused) => Err(refused),
+        }
     }
 }
 

@@ -12,7 +12,7 @@ ghost use Rattle.block_patch.specs.Commutes.{BlockOf, ground, Applied, FillsAlik
 
 use crate::fault::{EntryFault, StepFault};
 use crate::step::{Patched, Rules, step};
-use block_forms::{Block, BlockRead, BlockReading, clear_message};
+use block_forms::{Block, BlockRead, BlockReading, OpenBlock};
 use enc_index::Holes;
 use json_patch6902::OpList;
 use n32_values::{Doc, NoMemory, Text};
@@ -58,7 +58,7 @@ fn all_steps(
     Ok(current)
 }
 
-// A block that is read once more, for the places of its holes.
+// A copy of a block that is read once more.
 fn reading_of(alloc: Global, block: &Block, count: u32) -> Result<BlockReading, NoMemory>
     requires { block_fault block.now count ≡ None }
     ensures { IfOk result (λ reading. reading ≡ (block.now, count)) }
@@ -70,17 +70,35 @@ fn reading_of(alloc: Global, block: &Block, count: u32) -> Result<BlockReading, 
     }
 }
 
-// A copy of a block, with the message that it stands for.
-fn opened(alloc: Global, block: &Block, count: u32) -> Result<Patched, NoMemory>
+// A copy of a block with the message that it stands for, and the places of the holes.
+#[derive(Drop)]
+struct OpenCopy {
+    start: Patched,
+    holes: Holes,
+}
+
+fn opened(alloc: Global, block: &Block, count: u32) -> Result<OpenCopy, NoMemory>
     requires { block_fault block.now count ≡ None }
-    ensures value { IfOk result (λ p. p.doc ≡ block.now) }
-    ensures block { IfOk result (λ p. IsBlock p.doc count (message_view p.message)) }
+    ensures value { IfOk result (λ o. o.start.doc ≡ block.now) }
+    ensures holes { IfOk result (λ o. places_of o.start.doc count ≡ Ok o.holes) }
+    ensures block { IfOk result (λ o. IsBlock o.start.doc count (message_view o.start.message)) }
 {
     block_has_one_message();
     let _known = block.doc().node();
-    let message = clear_message(alloc, block)?;
-    match block.doc().copy(alloc) {
-        Ok(doc) => Ok(Patched { doc, message }),
+    let reading = reading_of(alloc, block, count)?;
+    match reading.into_all(alloc) {
+        Ok(all) => {
+            let OpenBlock {
+                block,
+                holes,
+                message,
+            } = all;
+            let doc = block.into_doc();
+            Ok(OpenCopy {
+                start: Patched { doc, message },
+                holes,
+            })
+        }
         Err(refused) => Err(refused),
     }
 }
@@ -98,11 +116,11 @@ fn patched(
     ensures block { IfOk result (λ p. IsBlock p.doc rules.now.holes (message_view p.message)) }
 {
     block_has_one_message();
-    let Ok(reading) = reading_of(alloc, block, rules.holes) else {
-        return Err(EntryFault::NoMemory);
-    };
     match opened(alloc, block, rules.holes) {
-        Ok(start) => all_steps(alloc, rules, reading.holes(), start, operations),
+        Ok(opened) => {
+            let OpenCopy { start, holes } = opened;
+            all_steps(alloc, rules, &holes, start, operations)
+        }
         Err(_) => Err(EntryFault::NoMemory),
     }
 }

@@ -12,7 +12,7 @@ ghost use Rattle.block_patch.specs.Answers.{Makes, Judges, Forbids};
 use crate::fault::{OpWhy, StepFault};
 use crate::guards::{goes_to_hole, has_spelling, takes_hole};
 use json_patch6902::{ApplyFault, Op, apply};
-use n32_values::{Doc, Node, is_same_doc, text_length};
+use n32_values::{Doc, Node, is_longer, is_same_doc};
 use std::alloc::Global;
 
 const MAX_BLOCK_BYTES: u64 = 4_194_304;
@@ -20,7 +20,7 @@ const MAX_BLOCK_BYTES: u64 = 4_194_304;
 fn is_too_large(doc: &Doc) -> bool
     ensures { result ≡ not (nat_le (length (compact_text doc.now)) 4_194_304) }
 {
-    MAX_BLOCK_BYTES < text_length(doc.node())
+    is_longer(doc.node(), MAX_BLOCK_BYTES)
 }
 
 fn is_same_member(left: Option<&Node>, right: Option<&Node>) -> bool

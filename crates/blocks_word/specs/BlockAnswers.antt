@@ -6,22 +6,21 @@ use Rattle.spec_documents.specs.Place.{◌>>=◌}
 use Rattle.spec_messages.specs.Message.{Message}
 use Rattle.spec_messages.specs.Block.{Meta}
 use Rattle.spec_messages.specs.Plain.{empty_policy}
-use Rattle.reformat_blocks.specs.Splitting.{Parts, splitting}
-use Rattle.block_forms.specs.declared.fault.LimitName.{LimitName}
+use Rattle.spec_messages.specs.Splitting.{Parts, splitting}
+use Rattle.spec_messages.specs.Limits.{Limit}
 use Rattle.spec_documents.specs.Lines.{lines_of, is_blank}
 use Rattle.spec_script.specs.Refusals.{Refusal, Beyond}
 use Rattle.spec_script.specs.LineTree.{line_tree}
 use Rattle.spec_script.specs.Messages.{message_in}
 use Rattle.spec_script.specs.Answers.{refusal_tree}
-use Rattle.block_forms.specs.Faults.{limit_view}
 
 -- the block is of no context and no message, and names no intermediary
 abbrev pub no_meta : Meta
 no_meta = record { context = codes "0000000000000000"; message = codes "0000000000000000"; ipx = codes "null" }
 
-abbrev pub or_limit_refusal : Result Parts LimitName → Result Parts Refusal
+abbrev pub or_limit_refusal : Result Parts Limit → Result Parts Refusal
 or_limit_refusal (Ok parts) = Ok parts
-or_limit_refusal (Err limit) = Err (Beyond (limit_view limit))
+or_limit_refusal (Err limit) = Err (Beyond limit)
 
 -- the block and the values of a message under the empty policy
 abbrev pub plain_parts : Message → Result Parts Refusal

@@ -12,7 +12,7 @@ use http_message::Message;
 use n32_values::{Bytes, NoMemory, Node, NodeMap, Text, Whole, doc_text};
 use policy_tables::Policy;
 use reformat_blocks::{Meta, Split, SplitFault, split};
-use script_lines::{Refusal, Unanswered, read_line, read_line_message, refusal_text};
+use script_lines::{Refusal, Unanswered, read_line, refusal_text, take_line_message};
 use std::alloc::Global;
 
 // The metadata of no context, no message and no intermediary.
@@ -45,7 +45,7 @@ fn split_line(alloc: Global, line: &[u8]) -> Result<Split, Unanswered>
     ensures { Gives told_refusal (λ split. (split.block, split.values)) result (line_parts line.now) }
 {
     let doc = read_line(alloc, line)?;
-    let message = read_line_message(alloc, doc.node())?;
+    let message = take_line_message(alloc, doc.into_node())?;
     let parts = split_message(alloc, &message)?;
     Ok(parts)
 }

@@ -6,8 +6,8 @@ use Rattle.n32_outside.specs.Contents.{Stays, Gains}
 use Rattle.context_records.specs.Reading.{ReadsRecord, written}
 use Rattle.context_store.specs.Stores.{Stored, Holds, IsFirstBad}
 use Rattle.spec_exchange.specs.Chain.{◌>>=◌}
-use Rattle.spec_exchange.specs.Outside.{Choice, Read, ReadFails, BadRecord, Kept, Lost, KeptUntold, Journal, Keeper, Cause, Own, Outside, Outcome, puts, behind_reading, or_refusal}
-use Rattle.context_store.specs.Changes.{ComesTo, CallBy, with_room, putting, PutBy}
+use Rattle.spec_exchange.specs.Outside.{Choice, Read, ReadFails, BadRecord, Putting, Kept, Lost, KeptUntold, Journal, Keeper, Cause, Own, Outside, Outcome, puts, behind_reading, or_refusal}
+use Rattle.context_store.specs.Changes.{ComesTo, IsChosen, CallBy, with_room, putting, PutBy}
 
 -- a call that checks over the records, once they are read, and puts the record of what passes
 abbrev pub checked : {X R : Type 0} → (List Record → Result X R) → (X → Record) → Choice → List Record → Outcome R X
@@ -54,6 +54,36 @@ untold e item Answers held now old new x answer lt stale either reads = ⊎_elim
           (record { answer = answer; change = record { told = (gains, reads); kept = λ f. cc }; still = λ e. cc });
     }) either
 
+-- ---- the reading
+
+-- the store is read, and these records are as they were or those that are held
+pub record IsRead (held now : Option (List (List ℕ))) (old new : Stored) : Type 0 where
+  pub told : Stays held now
+  pub holds : Holds now new.records
+  pub few : length new.records ≤ record_limit
+  pub fresh : new.fresh ≡ true
+  pub same : old.fresh ≡ true → new ≡ old
+
+pub chosen_read : (held now : Option (List (List ℕ))) (old new : Stored) (p : Putting) → IsRead held now old new → IsChosen held old (record { reading = Read; putting = p }) new.records
+chosen_read held now old new p is_read = record {
+  fresh = λ f. (refl, ap (λ z. z.records) (is_read.same f));
+  read = λ r. subst (λ z. Holds z new.records) is_read.told is_read.holds;
+  few = λ stale r. is_read.few;
+  bad = λ k r. cc;
+}
+
+-- nothing is read: this text is of no record, or the keeper failed
+pub chosen_bad : (held : Option (List (List ℕ))) (old : Stored) (p : Putting) (number : ℕ) → old.fresh ≡ false → IfSome held (λ texts. IsFirstBad texts number) → IsChosen held old (record { reading = BadRecord number; putting = p }) []
+chosen_bad held old p number stale first = record {
+  fresh = λ f. cc;
+  read = λ e. cc;
+  few = λ s e. cc;
+  bad = λ k e. let same : number ≡ k = cc in subst (λ n. IfSome held (λ texts. IsFirstBad texts n)) same first;
+}
+
+pub chosen_none : (held : Option (List (List ℕ))) (old : Stored) (p : Putting) → old.fresh ≡ false → IsChosen held old (record { reading = ReadFails; putting = p }) []
+chosen_none held old p stale = record { fresh = λ f. cc; read = λ e. cc; few = λ s e. cc; bad = λ k e. cc }
+
 -- ---- the call
 
 -- the store isn't read: this text is of no record
@@ -62,10 +92,8 @@ pub bad_record : {X R : Type 0} (checks : List Record → Result X R) (item : X 
 bad_record checks item Answers held now old new number answer stays before after first = record {
   choice = record { reading = BadRecord number; putting = Kept };
   records = [];
-  fresh = λ f. cc;
-  read = λ e. cc;
-  few = λ e. cc;
-  bad = λ k e. let same : number ≡ k = cc in subst (λ n. IfSome held (λ texts. IsFirstBad texts n)) same first;
+  chosen = chosen_bad held old Kept number before first;
+  few = λ f. cc;
   comes = record { answer = answer; change = record { told = stays; kept = λ f. cc }; still = λ e. cc };
 }
 
@@ -75,37 +103,31 @@ pub unread : {X R : Type 0} (checks : List Record → Result X R) (item : X → 
 unread checks item Answers held now old new answer stays before after = record {
   choice = record { reading = ReadFails; putting = Kept };
   records = [];
-  fresh = λ f. cc;
-  read = λ e. cc;
-  few = λ e. cc;
-  bad = λ k e. cc;
+  chosen = chosen_none held old Kept before;
+  few = λ f. cc;
   comes = record { answer = answer; change = record { told = stays; kept = λ f. cc }; still = λ e. cc };
 }
 
 -- a check refuses over the records that were read
 pub refused : {X R : Type 0} (checks : List Record → Result X R) (item : X → Record) (Answers : Result X (Cause R) → Type 0) (held now : Option (List (List ℕ))) (old new : Stored) (e : R)
-    → Answers (Err (Own e)) → Stays held now → Holds now new.records → length new.records ≤ record_limit → new.fresh ≡ true → (old.fresh ≡ true → new ≡ old) → checks new.records ≡ Err e → CallBy (checked checks item) Answers held now old new
-refused checks item Answers held now old new e answer stays holds few fresh same is = record {
+    → Answers (Err (Own e)) → IsRead held now old new → checks new.records ≡ Err e → CallBy (checked checks item) Answers held now old new
+refused checks item Answers held now old new e answer is_read is = record {
   choice = record { reading = Read; putting = Kept };
   records = new.records;
-  fresh = λ f. (refl, ap (λ z. z.records) (same f));
-  read = λ r. subst (λ z. Holds z new.records) stays holds;
-  few = λ r. few;
-  bad = λ k r. cc;
+  chosen = chosen_read held now old new Kept is_read;
+  few = λ f. is_read.few;
   comes = subst (λ w. ComesTo Answers held now new.records new (or_refusal w (λ x. puts Kept (item x) x))) (sym is)
-      (record { answer = answer; change = record { told = stays; kept = λ f. refl }; still = λ r. fresh });
+      (record { answer = answer; change = record { told = is_read.told; kept = λ f. refl }; still = λ r. is_read.fresh });
 }
 
 -- the record of what passes the checks is put over the records that were read
 pub put : {X R : Type 0} (e : R) (checks : List Record → Result X R) (item : X → Record) (Answers : Result X (Cause R) → Type 0) (held mid now : Option (List (List ℕ))) (old read new : Stored) (x : X)
-    → PutBy e item Answers mid now read new x → mid ≡ held → Holds mid read.records → length read.records ≤ record_limit → (old.fresh ≡ true → read ≡ old) → checks read.records ≡ with_room e read.records x → CallBy (checked checks item) Answers held now old new
-put e checks item Answers held mid now old read new x h stays holds few same is = record {
+    → PutBy e item Answers mid now read new x → IsRead held mid old read → checks read.records ≡ with_room e read.records x → CallBy (checked checks item) Answers held now old new
+put e checks item Answers held mid now old read new x h is_read is = record {
   choice = record { reading = Read; putting = h.choice };
   records = read.records;
-  fresh = λ f. (refl, ap (λ z. z.records) (same f));
-  read = λ r. subst (λ z. Holds z read.records) stays holds;
-  few = λ r. few;
-  bad = λ k r. cc;
+  chosen = chosen_read held mid old read h.choice is_read;
+  few = λ f. is_read.few;
   comes = subst (λ w. ComesTo Answers held now read.records new (or_refusal w (λ x. puts h.choice (item x) x))) (sym is)
-      (subst (λ z. ComesTo Answers z now read.records new (putting e item read.records x h.choice)) stays h.comes);
+      (subst (λ z. ComesTo Answers z now read.records new (putting e item read.records x h.choice)) is_read.told h.comes);
 }

@@ -1,3 +1,4 @@
 pub mod Kept
 mod Names
+mod Held
 pub mod Calls

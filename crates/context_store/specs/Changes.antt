@@ -37,16 +37,22 @@ pub record ComesTo {X R : Type 0} (Answers : Result X (Cause R) → Type 0) (hel
   pub change : Change held now records new outcome.put
   pub still : is_of_keeper outcome.result ≡ false → new.fresh ≡ true
 
+-- a choice of the keeper, and records, that a call or a step over the store may go by
+pub record IsChosen (held : Option (List (List ℕ))) (old : Stored) (choice : Choice) (records : List Record) : Type 0 where
+  -- a fresh store is not read
+  pub fresh : old.fresh ≡ true → (choice.reading ≡ Read) × (records ≡ old.records)
+  -- what is read are the records that are held, within their limit, and the first of the held texts that is of no record, or one too many, is named
+  pub read : choice.reading ≡ Read → Holds held records
+  pub few : old.fresh ≡ false → choice.reading ≡ Read → length records ≤ record_limit
+  pub bad : (number : ℕ) → choice.reading ≡ BadRecord number → IfSome held (λ texts. IsFirstBad texts number)
+
 -- a call over the records of the store, once it is read, under some choice of the keeper
 pub record CallBy {X R : Type 0} (outcome : Choice → List Record → Outcome R X) (Answers : Result X (Cause R) → Type 0) (held now : Option (List (List ℕ))) (old new : Stored) : Type 0 where
   pub choice : Choice
   pub records : List Record
-  -- a fresh store is not read
-  pub fresh : old.fresh ≡ true → (choice.reading ≡ Read) × (records ≡ old.records)
-  -- what is read are the records that are held, and the first of the held texts that is of no record, or one too many, is named
-  pub read : choice.reading ≡ Read → Holds held records
-  pub few : choice.reading ≡ Read → length records ≤ record_limit
-  pub bad : (number : ℕ) → choice.reading ≡ BadRecord number → IfSome held (λ texts. IsFirstBad texts number)
+  pub chosen : IsChosen held old choice records
+  -- those of a fresh store are within their limit too
+  pub few : old.fresh ≡ true → length records ≤ record_limit
   pub comes : ComesTo Answers held now records new (outcome choice records)
 
 -- ---- the put

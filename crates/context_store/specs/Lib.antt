@@ -1,2 +1,4 @@
 pub mod Stores
 pub mod Changes
+pub mod ByKind
+pub mod CallFaults

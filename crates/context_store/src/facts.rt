@@ -1,16 +1,16 @@
 // What one record says.
 ghost use Rattle.std.specs.Prelude.{◌≡◌, option_map};
 ghost use Rattle.spec_records.specs.Records as spec;
-ghost use Rattle.http_message.specs.Reading.{kind_view};
-ghost use Rattle.context_records.specs.View.{context_view, key_set_view, record_view, suite_view};
+ghost use Rattle.context_cache.specs.Mirror.{fact_of, fits_opening, keyed_set as keyed_set_of};
+ghost use Rattle.context_records.specs.View.{context_view, key_set_view, record_view};
 
+use context_cache::Fact;
 use context_records::{Context, KeySet, Record};
 use http_message::Kind;
-use jwe_flat::Suite;
 use n32_values::{Hex64, Text};
 
 // The node and the id that a record names.
-fn name_of(item: &Record) -> (&Text, Hex64)
+pub(crate) fn name_of(item: &Record) -> (&Text, Hex64)
     ensures node { result.0.now ≡ spec.node_of (record_view item.now) }
     ensures id { result.1.value ≡ spec.context_of (record_view item.now) }
 {
@@ -24,38 +24,6 @@ fn name_of(item: &Record) -> (&Text, Hex64)
     }
 }
 
-pub(crate) fn is_of(item: &Record, node: &Text, id: Hex64) -> bool
-    ensures { result ≡ spec.is_of node.now id.value (record_view item.now) }
-{
-    let (named, context) = name_of(item);
-    named.as_str() == node.as_str() && context.value == id.value
-}
-
-fn is_same_kind(a: Kind, b: Kind) -> bool
-    ensures { result ≡ spec.same_kind (kind_view a) (kind_view b) }
-{
-    match a {
-        Kind::Request => matches!(b, Kind::Request),
-        Kind::Response => matches!(b, Kind::Response),
-    }
-}
-
-pub(crate) fn takes_id(item: &Record) -> bool
-    ensures { result ≡ spec.takes_id (record_view item.now) }
-{
-    match item {
-        Record::Offered { .. } => true,
-        Record::Opened(_) => true,
-        _ => false,
-    }
-}
-
-pub(crate) fn is_closed(item: &Record) -> bool
-    ensures { result ≡ spec.is_closed (record_view item.now) }
-{
-    matches!(item, Record::Closed { .. })
-}
-
 pub(crate) fn opened_context(item: &Record) -> Option<&Context>
     ensures { option_map (λ x. context_view x.now) result ≡ spec.opened_context (record_view item.now) }
 {
@@ -65,96 +33,57 @@ pub(crate) fn opened_context(item: &Record) -> Option<&Context>
     }
 }
 
-pub(crate) fn keyed_for(suite: Suite, item: &Record) -> Option<&KeySet>
-    ensures { option_map (λ k. key_set_view k.now) result ≡ spec.keyed_for (suite_view suite) (record_view item.now) }
+pub(crate) fn keyed_set(item: &Record) -> Option<&KeySet>
+    ensures { option_map (λ k. key_set_view k.now) result ≡ keyed_set_of (record_view item.now) }
 {
     match item {
-        Record::Keyed { keys, .. } => { if keys.fits(suite) { Some(keys) } else { None } }
+        Record::Keyed { keys, .. } => Some(keys),
         _ => None,
     }
 }
 
-pub(crate) fn sent_number(kind: Kind, item: &Record) -> Option<u32>
-    ensures { result ≡ spec.sent_number (kind_view kind) (record_view item.now) }
+fn fits(opening: Option<&Context>, keys: &KeySet) -> bool
+    ensures { result ≡ fits_opening (option_map (λ x. context_view x.now) opening.entry) (key_set_view keys.now) }
+{
+    match opening {
+        Some(context) => keys.fits(context.suite),
+        None => false,
+    }
+}
+
+// What a record tells of its context, which was opened so before.
+pub(crate) fn fact(opening: Option<&Context>, item: &Record) -> Fact
+    ensures { result ≡ fact_of (option_map (λ x. context_view x.now) opening.entry) (record_view item.now) }
 {
     match item {
+        Record::Offered { .. } => Fact::Offered,
+        Record::Opened(_) => Fact::Opened,
+        Record::Keyed { keys, .. } => {
+            if fits(opening, keys) {
+                Fact::Keyed
+            } else {
+                Fact::Nothing
+            }
+        }
         Record::Sent {
-            kind: sent,
+            kind,
             seq,
-            ..
-        } => {
-            if is_same_kind(*sent, kind) {
-                Some(*seq)
-            } else {
-                None
-            }
-        }
-        _ => None,
-    }
-}
-
-pub(crate) fn request_sent(message: Hex64, item: &Record) -> Option<Option<u32>>
-    ensures { result ≡ spec.request_sent message.value (record_view item.now) }
-{
-    match item {
-        Record::Sent {
-            kind: Kind::Request,
-            message: sent,
+            message,
             mapping,
             ..
-        } => {
-            if sent.value == message.value {
-                Some(*mapping)
-            } else {
-                None
-            }
-        }
-        _ => None,
-    }
-}
-
-pub(crate) fn is_reply_to(message: Hex64, item: &Record) -> bool
-    ensures { result ≡ spec.is_reply_to message.value (record_view item.now) }
-{
-    match item {
-        Record::Sent {
-            kind: Kind::Response,
-            message: sent,
-            ..
-        } => sent.value == message.value,
-        _ => false,
-    }
-}
-
-pub(crate) fn is_delivery(kind: Kind, message: Hex64, item: &Record) -> bool
-    ensures { result ≡ spec.is_delivery (kind_view kind) message.value (record_view item.now) }
-{
-    match item {
+        } => match kind {
+            Kind::Request => Fact::SentRequest(*seq, message.value, *mapping),
+            Kind::Response => Fact::SentResponse(*seq, message.value, *mapping),
+        },
         Record::Delivered {
-            kind: delivered,
-            message: id,
-            ..
-        } => is_same_kind(*delivered, kind) && id.value == message.value,
-        _ => false,
-    }
-}
-
-pub(crate) fn request_delivered(message: Hex64, item: &Record) -> Option<Option<u32>>
-    ensures { result ≡ spec.request_delivered message.value (record_view item.now) }
-{
-    match item {
-        Record::Delivered {
-            kind: Kind::Request,
-            message: delivered,
+            kind,
+            message,
             mapping,
             ..
-        } => {
-            if delivered.value == message.value {
-                Some(*mapping)
-            } else {
-                None
-            }
-        }
-        _ => None,
+        } => match kind {
+            Kind::Request => Fact::DeliveredRequest(message.value, *mapping),
+            Kind::Response => Fact::DeliveredResponse(message.value, *mapping),
+        },
+        Record::Closed { .. } => Fact::Closed,
     }
 }

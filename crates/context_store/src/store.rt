@@ -12,7 +12,9 @@ ghost use Rattle.context_store.specs.Stores.{HasNoBad, IsConsistent, NamesBad};
 
 use crate::faults::{AddFault, OpenFault};
 use crate::loading::read_records;
-use crate::questions;
+use crate::noting::{make_room, push_record};
+use crate::questions::{delivery, greatest, keyed_at, open_context, seq_with};
+use context_cache::Caches;
 use context_records::{Context, KeySet, Record, record_text};
 use http_message::Kind;
 use n32_outside::{Keeper, OutFault};
@@ -26,16 +28,19 @@ pub const RECORD_LIMIT: usize = 1_048_576;
 /// The records of a keeper as they were last read or added, the oldest first, and whether they are fresh:
 /// still those that are held. A fresh store is kept in step with its keeper. Contracts see both.
 ///
-/// Each question goes over all records once and takes no memory.
+/// Beside the records it keeps what they tell of each context. A question looks up one context, and there one id
+/// among runs of ids: it goes over no records and takes no memory.
 #[derive(Drop)]
 pub struct Store {
     records: Vec<Record>,
+    caches: Caches,
     fresh: bool,
 }
 
 impl Model for Store {
     ghost use Rattle.std.specs.Prelude.{◌≤◌, length, map};
     ghost use Rattle.spec_records.specs.Records.{record_limit};
+    ghost use Rattle.context_cache.specs.Mirror.{IsMirror};
     ghost use Rattle.context_records.specs.View.{record_view};
     ghost use Rattle.context_store.specs.Stores.{AreNamed, Stored};
 
@@ -43,7 +48,7 @@ impl Model for Store {
 
     ghost view = { λ s. record { records = map record_view s.records.items; fresh = s.fresh } };
 
-    ghost invariant = { λ s. (length s.records.items ≤ record_limit) × AreNamed (map record_view s.records.items) };
+    ghost invariant = { λ s. (length s.records.items ≤ record_limit) × AreNamed (map record_view s.records.items) × IsMirror s.caches (map record_view s.records.items) };
 }
 
 /// A stale store without records. It takes no memory.
@@ -53,6 +58,7 @@ pub fn new_store(alloc: Global) -> Store
 {
     Store {
         records: Vec::new(alloc),
+        caches: Caches::new(alloc),
         fresh: false,
     }
 }
@@ -98,7 +104,9 @@ impl Store {
         if self.fresh {
             return Ok(());
         }
-        self.records = read_records(alloc, keeper)?;
+        let (records, caches) = read_records(alloc, keeper)?;
+        self.records = records;
+        self.caches = caches;
         self.fresh = true;
         Ok(())
     }
@@ -146,19 +154,17 @@ impl Store {
         }
         let number = self.records.len() as u64;
         let text = record_text(alloc, &item)?;
-        let Ok(()) = self.records.push(item) else {
-            return Err(AddFault::NoMemory);
-        };
+        make_room(alloc, &mut self.records, &mut self.caches, &item)?;
         match keeper.put(text.as_slice()) {
-            Ok(()) => Ok(number),
+            Ok(()) => {
+                push_record(&mut self.records, &mut self.caches, item);
+                Ok(number)
+            }
             Err(OutFault::Failed) => {
                 self.forget();
                 Err(AddFault::Keeper)
             }
-            Err(OutFault::NoMemory) => {
-                let _ = self.records.pop();
-                Err(AddFault::NoMemory)
-            }
+            Err(OutFault::NoMemory) => Err(AddFault::NoMemory),
         }
     }
 
@@ -166,7 +172,7 @@ impl Store {
     pub fn used(&self, node: &Text, id: Hex64) -> bool
         ensures { result ≡ spec.used node.now id.value self.now.records }
     {
-        questions::used(&self.records, node, id)
+        self.caches.used(node.as_str(), id.value)
     }
 
     /// The context that is opened and not closed, `None` exactly where there is none. Of several opened records
@@ -176,7 +182,7 @@ impl Store {
         ensures node { IfSome result (λ _. IsTrue (is_node_name node.now)) }
         ensures own_ipx { IfSome result (λ x. IsTrue (are_ipx (context_view x.now).own_ipx)) }
     {
-        questions::open_context(&self.records, node, id)
+        open_context(&self.records, &self.caches, node, id)
     }
 
     /// The keys of the context: those of the first keyed record behind its opening whose key lengths fit its
@@ -184,35 +190,37 @@ impl Store {
     pub fn keys(&self, node: &Text, id: Hex64) -> Option<&KeySet>
         ensures { option_map (λ k. key_set_view k.now) result ≡ spec.keys node.now id.value self.now.records }
     {
-        questions::keys(&self.records, node, id)
+        keyed_at(&self.records, self.caches.keyed(node.as_str(), id.value))
     }
 
     /// The number of the first record of the delivery of a message, `None` exactly where it was not delivered.
     pub fn delivered(&self, node: &Text, id: Hex64, kind: Kind, message: Hex64) -> Option<u64>
         ensures { result ≡ spec.delivered_at node.now id.value (kind_view kind) message.value self.now.records }
     {
-        questions::delivered(&self.records, node, id, kind, message)
+        delivery(&self.caches, node, id, kind, message)
     }
 
     /// The mapping kept with the request that was sent under a message id, `None` exactly where none was.
     pub fn mapping_sent(&self, node: &Text, id: Hex64, message: Hex64) -> Option<Option<u32>>
         ensures { result ≡ spec.mapping_sent node.now id.value message.value self.now.records }
     {
-        questions::mapping_sent(&self.records, node, id, message)
+        self.caches
+            .mapping_sent(node.as_str(), id.value, message.value)
     }
 
     /// The mapping kept with the request that was delivered under a message id, `None` exactly where none was.
     pub fn mapping_delivered(&self, node: &Text, id: Hex64, message: Hex64) -> Option<Option<u32>>
         ensures { result ≡ spec.mapping_delivered node.now id.value message.value self.now.records }
     {
-        questions::mapping_delivered(&self.records, node, id, message)
+        self.caches
+            .mapping_delivered(node.as_str(), id.value, message.value)
     }
 
     /// Whether a response was sent under a message id, which is that of its request.
     pub fn answered(&self, node: &Text, id: Hex64, message: Hex64) -> bool
         ensures { result ≡ spec.answered node.now id.value message.value self.now.records }
     {
-        questions::answered(&self.records, node, id, message)
+        self.caches.answered(node.as_str(), id.value, message.value)
     }
 
     /// The next sequence number of a kind: the keys' first where nothing of the kind was sent, else the greatest
@@ -220,6 +228,6 @@ impl Store {
     pub fn next_seq(&self, node: &Text, id: Hex64, kind: Kind) -> Option<u32>
         ensures { result ≡ spec.next_seq node.now id.value (kind_view kind) self.now.records }
     {
-        questions::next_seq(&self.records, node, id, kind)
+        seq_with(self.keys(node, id), greatest(&self.caches, node, id, kind))
     }
 }

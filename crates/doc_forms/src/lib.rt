@@ -6,6 +6,7 @@ mod cuts;
 mod grammar;
 mod holes;
 mod lookup;
+mod objects;
 mod writers;
 
 pub use cuts::cut;
@@ -15,4 +16,5 @@ pub use grammar::{
 };
 pub use holes::{hole_index, hole_node, push_hole, text_hole};
 pub use lookup::text_at;
+pub use objects::{lifted, members_in};
 pub use writers::{number_text, put, put_text};

@@ -1,5 +1,5 @@
 -- Texts and values filled, one piece at a time.
-use Rattle.std.proofs.Common.{◌≡◌, ℕ, zero, suc, ◌^◌, ◌<◌, List, [], ◌∷◌, ◌++◌, map, length, true, false, Option, Some, None, option_map, slice_get, refl, sym, ap, ap₂, ◌∙◌, append_assoc, append-nil, if◌then◌else◌}
+use Rattle.std.proofs.Common.{◌≡◌, ℕ, zero, suc, ◌^◌, ◌<◌, List, [], ◌∷◌, ◌++◌, length, true, false, Option, Some, None, option_map, slice_get, refl, sym, ap, ap₂, ◌∙◌, append-nil, if◌then◌else◌}
 use Rattle.spec_documents.specs.Tree.{Tree, null, members, Members}
 use Rattle.spec_documents.specs.Text.{joined}
 use Rattle.spec_documents.specs.Hole.{HolePlace, value_at, text_value, hole_or, object_or}
@@ -37,14 +37,6 @@ later c (p ∷ ps) = c ∷ (p ++ later c ps)
 pub joined-later : (c : ℕ) (p : List ℕ) (ps : List (List ℕ)) → joined c (p ∷ ps) ≡ p ++ later c ps
 joined-later c p [] = sym (append-nil p)
 joined-later c p (q ∷ ps) = ap (λ r. p ++ c ∷ r) (joined-later c q ps)
-
-pub piece_written : (c : ℕ) (f : List ℕ → List ℕ) (out marked grown p w : List ℕ) (all rest : List (List ℕ)) → marked ≡ out ++ c ∷ [] → grown ≡ marked ++ f p → all ≡ p ∷ rest
-    → out ++ later c (map f all) ≡ w → grown ++ later c (map f rest) ≡ w
-piece_written c f out marked grown p w all rest em eg cut so_far =
-    ap (λ r. r ++ later c (map f rest)) (eg ∙ ap (λ r. r ++ f p) em)
-    ∙ append_assoc (out ++ c ∷ []) (f p) (later c (map f rest))
-    ∙ append_assoc out (c ∷ []) (f p ++ later c (map f rest))
-    ∙ ap (λ ps. out ++ later c (map f ps)) (sym cut) ∙ so_far
 
 -- ---- unfit values
 

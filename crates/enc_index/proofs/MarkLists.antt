@@ -6,7 +6,7 @@ use Rattle.spec_documents.specs.Tree.{Tree, items, Trees, item, trees}
 use Rattle.spec_documents.specs.Fields.{Field, fields}
 use Rattle.spec_documents.specs.Place.{Pointer, Cause, at, child}
 use Rattle.spec_documents.specs.Text.{index_text}
-use Rattle.spec_documents.specs.Hole.{Mark, Marks, beneath, marks, items_marks, members_marks, marks_in, list_marks, value_marks, object_mark, text_mark, piece_marks, object_marks, text_marks, all_marks, words_marks, path_pointer, query_pointer, path_pieces, query_pieces, text_hole, pair_hole, mark_here}
+use Rattle.spec_documents.specs.Hole.{Mark, Marks, beneath, marks, items_marks, members_marks, marks_in, list_marks, value_marks, object_mark, piece_marks, object_marks, text_marks, all_marks, words_marks, path_pointer, query_pointer, path_pieces, query_pieces, text_hole, pair_hole, mark_here}
 use Rattle.doc_forms.specs.Capped.{capped}
 use Rattle.enc_index.specs.Marks.{held, under, token_of, tokens}
 use Rattle.enc_index.specs.declared.walk.Step.{Step}
@@ -83,16 +83,6 @@ values_found look name (Ok u) ts e =
 
 pub three_steps : (p q r s : List Step) (a b c : Step) → p ≡ [] → q ≡ p ++ a ∷ [] → r ≡ q ++ b ∷ [] → s ≡ r ++ c ∷ [] → tokens s ≡ token_of a ∷ token_of b ∷ token_of c ∷ []
 three_steps p q r s a b c ep eq er es = ap tokens (es ∙ ap (λ x. x ++ c ∷ []) (er ∙ ap (λ x. x ++ b ∷ []) (eq ∙ ap (λ x. x ++ a ∷ []) ep)))
-
--- ---- pieces of a text
-
-pub piece_more : (q : Pointer) (look : List ℕ → Option ℕ) (i n : ℕ) (p : List ℕ) (all rest : List (List ℕ)) (v u w : List Mark) → n ≡ suc i → all ≡ p ∷ rest
-    → u ≡ v ++ map held (text_mark q i (look p)) → v ++ map held (piece_marks q look i all) ≡ w → u ++ map held (piece_marks q look n rest) ≡ w
-piece_more q look i n p all rest v u w next cut grown whole =
-    let here : map held (piece_marks q look i all) ≡ map held (text_mark q i (look p)) ++ map held (piece_marks q look (suc i) rest) =
-    ap (λ ps. map held (piece_marks q look i ps)) cut ∙ map-append held (text_mark q i (look p)) (piece_marks q look (suc i) rest) in
-    ap (λ m. u ++ map held (piece_marks q look m rest)) next
-    ∙ more v u _ (map held (piece_marks q look (suc i) rest)) w grown (ap (λ r. v ++ r) (sym here) ∙ whole)
 
 -- ---- the whole walk
 

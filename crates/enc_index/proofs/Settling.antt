@@ -94,24 +94,10 @@ pub gathered-missing : (ms : List Mark) (n i : ℕ) (ps : List HolePlace) (r : R
     → (gathered ms (suc n) i >>= λ qs. Ok (ps ++ qs)) ≡ r → r ≡ Err (missing i)
 gathered-missing ms n i ps r here whole = sym whole ∙ ap (λ o. (found_place i o >>= λ q. gathered ms n (suc i) >>= λ qs. Ok (q ∷ qs)) >>= λ qs. Ok (ps ++ qs)) here
 
-pub gathered-start : (g : Result (List HolePlace) HoleFault) → (g >>= λ qs. Ok ([] ++ qs)) ≡ g
-gathered-start (Ok qs) = refl
-gathered-start (Err e) = refl
-
 -- ---- the order of faults
 
 pub places-bad : (ms : List Mark) (n : ℕ) (p : HolePlace) → first_bad n ms ≡ Some p → places_of_marks ms n ≡ Err (bad_hole p)
 places-bad ms n p e = ap (λ o. unless_some o bad_hole (unless_some (first_twice [] (indexes ms)) twice (gathered ms n 0))) e
-
-pub places-twice : (ms : List Mark) (n i : ℕ) → first_bad n ms ≡ None → first_twice [] (indexes ms) ≡ Some i → places_of_marks ms n ≡ Err (twice i)
-places-twice ms n i good e =
-    ap (λ o. unless_some o bad_hole (unless_some (first_twice [] (indexes ms)) twice (gathered ms n 0))) good
-    ∙ ap (λ o. unless_some o twice (gathered ms n 0)) e
-
-pub places-gathered : (ms : List Mark) (n : ℕ) → first_bad n ms ≡ None → first_twice [] (indexes ms) ≡ None → places_of_marks ms n ≡ gathered ms n 0
-places-gathered ms n good once =
-    ap (λ o. unless_some o bad_hole (unless_some (first_twice [] (indexes ms)) twice (gathered ms n 0))) good
-    ∙ ap (λ o. unless_some o twice (gathered ms n 0)) once
 
 -- ---- the table
 

@@ -1,10 +1,10 @@
 -- The lines that a machine has answered so far, and the next.
-use Rattle.std.proofs.Common.{◌≡◌, ℕ, ◌+◌, ◌*◌, ◌<◌, ◌≤◌, ◌^◌, List, [], ◌∷◌, ◌++◌, length, map, refl, ap, sym, subst, ◌∙◌, append-nil, append_assoc, arith, length-append, inl}
+use Rattle.std.proofs.Common.{◌≡◌, ℕ, ◌+◌, ◌*◌, ◌<◌, ◌≤◌, ◌^◌, List, [], ◌∷◌, ◌++◌, length, map, refl, ap, sym, subst, ◌∙◌, append_assoc, arith, length-append, inl}
 use Rattle.std.specs.Prelude.{Option}
 use Rattle.std.specs.Io.KnownBytes.{Appends}
 use Rattle.std.proofs.KnownBytes.{Appends-nil}
 use Rattle.spec_documents.specs.Lines.{Gives}
-use Rattle.spec_exercise.specs.Script.{Line, script}
+use Rattle.spec_exercise.specs.Script.{Line}
 use Rattle.spec_exercise.specs.Documents.{line_text, lines}
 use Rattle.spec_exercise.proofs.LineCounts.{lines_few}
 use Rattle.spec_exercise.specs.Summary.{summary_text}
@@ -14,7 +14,7 @@ use Rattle.script_loop.specs.declared.ending.Ending.{Ending}
 use Rattle.script_loop.specs.declared.ending.Ending.TheVariants.{Done, ReadFault, WriteFault, LineTooLong, ScriptTooLarge, NoMemory}
 use Rattle.exercise_script.specs.Sums.{HasTaken}
 use Rattle.exercise_script.specs.declared.summary.Summary.{Summary}
-use Rattle.exercise_word.specs.Playing.{AnswersLines, PlaysLine, LosesLine, PlaysAll, StopsPlaying}
+use Rattle.exercise_word.specs.Playing.{AnswersLines, PlaysLine, PlaysAll}
 use Rattle.exercise_word.specs.Endings.{Writes, SummarisesInPart, Ends}
 
 -- how far the playing has come: the first lines of the script were answered, and these are left
@@ -26,17 +26,6 @@ pub record Playing {M : Type 0} (gives : Gives M) (messages : ℕ) (old now : M)
   pub each : length texts ≡ length first
   pub answered : AnswersLines gives old 1 first texts now
   pub taken : HasTaken summary texts
-
-pub none_played : {M : Type 0} (gives : Gives M) (messages : ℕ) (old : M) (left : List Line) (summary : Summary) → left ≡ script messages → HasTaken summary [] → Playing gives messages old old 0 left summary
-none_played gives messages old left summary whole taken = record {
-  first = [];
-  texts = [];
-  parts = ap (λ ls. map line_text ls) (sym whole);
-  number_is = refl;
-  each = refl;
-  answered = (refl, refl);
-  taken = taken;
-}
 
 -- one line more
 one_more : {M : Type 0} (gives : Gives M) (old : M) (number place : ℕ) (first : List (List ℕ)) (line : List ℕ) (texts : List (List ℕ)) (text : List ℕ) (mid new : M)
@@ -67,29 +56,6 @@ pub room_for_next : {M : Type 0} (gives : Gives M) (messages : ℕ) (old now : M
 room_for_next gives messages old now number line left rest summary p cut =
     let parts : lines messages ≡ p.first ++ line_text line ∷ map line_text rest = p.parts ∙ ap (λ ls. p.first ++ map line_text ls) cut in
     omega (arith, p.number_is, lines_few messages, ap length parts, length-append p.first (line_text line ∷ map line_text rest))
-
-pub all_played : {M : Type 0} (gives : Gives M) (messages : ℕ) (old new : M) (number : ℕ) (left : List Line) (summary : Summary) → Playing gives messages old new number left summary → left ≡ [] → PlaysAll gives messages old new summary
-all_played gives messages old new number left summary p none =
-    let whole : p.first ≡ lines messages = sym (p.parts ∙ (ap (λ ls. p.first ++ map line_text ls) none ∙ append-nil p.first)) in
-    record {
-      texts = p.texts;
-      answered = subst (λ (ls : List (List ℕ)). AnswersLines gives old 1 ls p.texts new) whole p.answered;
-      each = p.each ∙ ap length whole;
-      taken = p.taken;
-    }
-
-pub lost_at : {M : Type 0} (gives : Gives M) (gives_up : GivesUp M) (messages : ℕ) (old mid new : M) (number next : ℕ) (line : Line) (left rest : List Line) (summary : Summary)
-    → Playing gives messages old mid number left summary → left ≡ line ∷ rest → next ≡ number + 1 → LosesLine gives gives_up mid next (line_text line) new → StopsPlaying gives gives_up messages old new
-lost_at gives gives_up messages old mid new number next line left rest summary p cut onward lost = record {
-  first = p.first;
-  line = line_text line;
-  rest = map line_text rest;
-  parts = p.parts ∙ ap (λ ls. p.first ++ map line_text ls) cut;
-  texts = p.texts;
-  mid = mid;
-  answered = p.answered;
-  lost = let at : next ≡ length p.first + 1 = omega (arith, onward, p.number_is) in subst (λ (n : ℕ). LosesLine gives gives_up mid n (line_text line) new) at lost;
-}
 
 -- so many answers can be counted
 pub countable : {M : Type 0} (gives : Gives M) (messages : ℕ) (old new : M) (summary : Summary) → (p : PlaysAll gives messages old new summary) → messages < 2 ^ 32 → length p.texts < 2 ^ 64

@@ -20,6 +20,6 @@ pub use line::{Head, Line, read_head};
 pub use message::{
     Header, HeaderList, Kind, Message, Pair, PairList, Part, PartList, Request, Response,
 };
-pub use read::read_message;
+pub use read::{read_message, take_message};
 pub use refusal::{MessageMember, MessageRead};
 pub use whole::is_whole;

@@ -3,7 +3,7 @@ ghost use Rattle.std.specs.Prelude.{codes, option_map, IfOk, IsTrue};
 ghost use Rattle.n32_values.specs.View.{tree_of};
 ghost use Rattle.spec_messages.specs.Message as spec;
 ghost use Rattle.http_message.specs.Reading.{Gives, Reads, GivesBody, message_view};
-ghost use Rattle.spec_documents.specs.Tree.{get_member};
+ghost use Rattle.spec_documents.specs.Tree.{get_member, members};
 
 use crate::form::Form;
 use crate::headers::read_headers;
@@ -27,6 +27,19 @@ fn read_body(alloc: Global, node: Option<&Node>) -> Result<Option<Doc>, MessageR
         Ok(doc) => Ok(Some(doc)),
         Err(_) => Err(MessageRead::Depth),
     }
+}
+
+// The body that a node becomes, which nests at most 64 deep.
+fn moved_body(node: Option<Node>) -> Result<Option<Doc>, MessageRead>
+    ensures { GivesBody result (option_map tree_of node) }
+{
+    let Some(node) = node else {
+        return Ok(None);
+    };
+    if 64 < depth(&node) {
+        return Err(MessageRead::Depth);
+    }
+    Ok(Some(Doc::of_shallow(node)))
 }
 
 // A request line that is there is an object, also beside a status line.
@@ -53,6 +66,18 @@ fn read_parts(alloc: Global, node: &Node) -> Result<Message, MessageRead>
     Ok(head.into_message(headers, body))
 }
 
+#[tactic(auto, unfolding(crate::specs::Forms::parts_of))]
+fn moved_parts(alloc: Global, map: NodeMap) -> Result<Message, MessageRead>
+    ensures { Reads result (spec.message_of (members map)) }
+{
+    let mut map = map;
+    check_line_form(&map)?;
+    let head = read_head(alloc, Form::Plain, &map)?;
+    let headers = read_headers(alloc, Form::Plain, map.get("headers"))?;
+    let body = moved_body(map.take("body"))?;
+    Ok(head.into_message(headers, body))
+}
+
 /// Reads the message that a document is of: `{"requestLine":{..},"headers":[..],"body":..}` or
 /// `{"statusLine":"201","headers":[..],"body":..}`. Other members are ignored, also inside the line
 /// and the headers. What is read is whole.
@@ -65,4 +90,15 @@ pub fn read_message(alloc: Global, node: &Node) -> Result<Message, MessageRead>
     ensures whole { IfOk result (λ m. IsTrue (spec.is_whole (message_view m))) }
 {
     read_parts(alloc, node)
+}
+
+/// Reads the message that a document is of, as `read_message` does, and moves the body out of the document.
+pub fn take_message(alloc: Global, node: Node) -> Result<Message, MessageRead>
+    ensures value { Reads result (spec.message_of (tree_of node)) }
+    ensures whole { IfOk result (λ m. IsTrue (spec.is_whole (message_view m))) }
+{
+    match node {
+        Node::Members(map) => moved_parts(alloc, map),
+        _ => Err(MessageRead::Member(MessageMember::Whole)),
+    }
 }

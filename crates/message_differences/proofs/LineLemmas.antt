@@ -43,10 +43,6 @@ pub paths_later : {A : Type 0} (view : A → Part) (ps : List Pattern) (xs ys : 
     → same_path ps i (map view (drop i xs)) (map view (drop i ys)) ≡ all → (is_free (slice_get ps i) || same_part (view x) (view y)) ≡ true → same_path ps (i + 1) (map view (drop (i + 1) xs)) (map view (drop (i + 1) ys)) ≡ all
 paths_later view ps xs ys i x y all is there h e = sym (paths_step view ps xs ys i x y true is there e) ∙ h
 
-pub paths_end : {A : Type 0} (view : A → Part) (ps : List Pattern) (xs ys : List A) (i : ℕ) (all : Bool) → length xs ≤ i → length xs ≡ length ys
-    → same_path ps i (map view (drop i xs)) (map view (drop i ys)) ≡ all → true ≡ all
-paths_end view ps xs ys i all past long h = ap₂ (λ a b. same_path ps i (map view a) (map view b)) (sym (drop_end xs i past)) (sym (drop_end ys i (omega (arith, past, long)))) ∙ h
-
 -- ---- variables
 
 pub variables_step : {A : Type 0} (view : A → Pattern) (qs : List A) (i : ℕ) (q : A) (rs ss : List Part) → slice_get qs i ≡ Some q

@@ -103,9 +103,6 @@ in_changed d xs q h = in_filter d (once_each [] xs) q ∙ ap (λ b. b && d q) (i
 
 -- ---- verdicts
 
-pub known_none : (d : List ℕ → Bool) (v : BTreeMap (Bor (List ℕ)) Bool) → ((q : List ℕ) → verdict q v ≡ None) → Known d [] v
-known_none d v h q = h q
-
 pub known_seen : (d : List ℕ → Bool) (s : List (List ℕ)) (x : List ℕ) (v : BTreeMap (Bor (List ℕ)) Bool) → Known d s v → is_some (verdict x v) ≡ is_in s x
 known_seen d s x v h = ap is_some (h x) ∙ step (is_in s x)
   where

@@ -182,9 +182,6 @@ turn_none P q ms ns i j o m n all a b c em en e h =
     ap₂ (λ x y. find P (map body_at (members_changed q (fields (drop (i + x) ms)) (fields (drop (j + y) ns))))) em en
     ∙ sym (ap (λ ps. find P (map body_at ps)) (turn_passed q ms ns i j o a b c) ∙ map_later body_at P (next_changed q (drop i ms) (drop j ns)) (members_changed q (fields (drop (i + from_bool (is_le o)) ms)) (fields (drop (j + from_bool (is_ge o)) ns))) e) ∙ h
 
-pub turn_done : (P : Address → Bool) (q : Pointer) (ms ns : List Field) (i j : ℕ) (all : Option Address) → length ms ≤ i → length ns ≤ j → find P (map body_at (members_changed q (fields (drop i ms)) (fields (drop j ns)))) ≡ all → None ≡ all
-turn_done P q ms ns i j all a b h = ap₂ (λ xs ys. find P (map body_at (members_changed q (fields xs) (fields ys)))) (sym (drop_end ms i a)) (sym (drop_end ns j b)) ∙ h
-
 -- ---- a node beside itself
 
 same_truth-self : (b : Bool) → same_truth b b ≡ true
@@ -246,20 +243,6 @@ mutual
       let r = and_parts (is_ordered t) _ p.1 in
       split_at q k t ms (member k t ms) no_members ms (Some t) (rw (name_self k) (below_none k ms i.0)) (rw (name_self k) refl) (rw (name_self k) (below_all k ms i.0))
       ∙ ap₂ (λ xs ys. xs ++ ys) (changed_self (q ++ k ∷ []) t r.0) (members_changed_self q ms r.1 i.1)
-
--- what isn't two objects is compared as a whole
-pub changed_whole : (q : Pointer) (t u : Tree) (b : Bool) → ((ms ns : Members) → t ≡ members ms → u ≡ members ns → ⊥) → same_tree t u ≡ b → changed_in q t (Some u) ≡ unless b q
-changed_whole q null u b apart e = ap (λ c. unless c q) e
-changed_whole q (truth c) u b apart e = ap (λ c. unless c q) e
-changed_whole q (whole z) u b apart e = ap (λ c. unless c q) e
-changed_whole q (words s) u b apart e = ap (λ c. unless c q) e
-changed_whole q (items ts) u b apart e = ap (λ c. unless c q) e
-changed_whole q (members ms) null b apart e = ap (λ c. unless c q) e
-changed_whole q (members ms) (truth c) b apart e = ap (λ c. unless c q) e
-changed_whole q (members ms) (whole z) b apart e = ap (λ c. unless c q) e
-changed_whole q (members ms) (words s) b apart e = ap (λ c. unless c q) e
-changed_whole q (members ms) (items ts) b apart e = ap (λ c. unless c q) e
-changed_whole q (members ms) (members ns) b apart e = absurd (apart ms ns refl refl)
 
 same_field : (l k : List ℕ) (u t : Tree) → ◌≡◌ {A = Option Field} (Some (l, u)) (Some (k, t)) → u ≡ t
 same_field l k u t e = ap (λ o. option_map_or (λ f. f.1) o u) e

@@ -11,11 +11,6 @@ value_none [] i e = refl
 value_none (v ∷ vs) zero e = cc
 value_none (v ∷ vs) (suc i) e = value_none vs i e
 
-pub value_some : (vs : List Tree) (i : ℕ) (v : Tree) → Some v ≡ slice_get vs i → value_at vs i ≡ v
-value_some [] i v e = cc
-value_some (u ∷ vs) zero v e = let is : u ≡ v = cc in is
-value_some (u ∷ vs) (suc i) v e = value_some vs i v e
-
 -- ---- lists
 
 pub one_filled : {X Y : Type 0} (view : X → Y) (f : Y → Y) (xs : List X) (i : ℕ) (x y : X) (out grown : List X) → slice_get xs i ≡ Some x → view y ≡ f (view x) → grown ≡ out ++ y ∷ []

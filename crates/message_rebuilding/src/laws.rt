@@ -6,7 +6,7 @@ ghost use Rattle.spec_messages.specs.Policy.{Policy};
 ghost use Rattle.spec_messages.specs.Split.{fill_whole};
 ghost use Rattle.spec_messages.specs.Block.{Meta, is_meta, is_ordered_body, clear_message};
 ghost use Rattle.spec_messages.specs.Rebuilt.{fill_fault};
-ghost use Rattle.reformat_blocks.specs.Splitting.{splitting};
+ghost use Rattle.spec_messages.specs.Splitting.{splitting};
 
 use reformat_blocks::split_is_undone;
 

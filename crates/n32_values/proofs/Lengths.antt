@@ -1,10 +1,11 @@
 -- Lengths of texts, one part more at a time, where a machine's number may hold less.
-use Rattle.std.proofs.Common.{◌≡◌, ℕ, zero, suc, ◌+◌, ◌-◌, ◌/◌, ◌%◌, ◌<◌, ◌≤◌, min, List, [], ◌∷◌, ◌++◌, length, drop, slice_get, Bool, true, false, ◌==◌, nat_lt, Some, refl, sym, ap, ◌∙◌, if◌then◌else◌, arith}
+use Rattle.std.proofs.Common.{◌≡◌, ℕ, zero, suc, ◌+◌, ◌-◌, ◌*◌, ◌/◌, ◌%◌, ◌<◌, ◌≤◌, min, List, [], ◌∷◌, ◌++◌, length, drop, slice_get, Bool, true, false, ◌==◌, nat_lt, cond, Some, refl, sym, ap, ◌∙◌, if◌then◌else◌, arith}
 use Rattle.std.proofs.lemmas.List.{length-append}
 use Rattle.std.proofs.lemmas.Bool.{lt-ltb, ne_eqb, eq-eqb}
 use Rattle.std.specs.Fmt.{digits, digits_onto, decimal, digit_glyph}
-use Rattle.json.specs.Print.{escape, escape_byte, quoted}
-use Rattle.spec_documents.specs.Tree.{Tree, Trees, item, trees, Members, member}
+use Rattle.std.specs.Char.{digit_char}
+use Rattle.json.specs.Print.{escape, escape_byte, escape_letter, quoted}
+use Rattle.spec_documents.specs.Tree.{Tree, Trees, no_items, item, trees, Members, no_members, member}
 use Rattle.spec_documents.specs.Fields.{Field, fields}
 use Rattle.spec_documents.specs.Compact.{comma_if, compact_text, items_text, members_text}
 use Rattle.n32_values.proofs.Trees.{drop_at}
@@ -109,3 +110,59 @@ more_digits (suc k) n some big =
 pub no_digits : (n : ℕ) → digit_number 0 n ≡ 0
 unfolding digit_number
 no_digits n = refl
+
+-- ---- no fewer than there are
+
+comma_short : (b : Bool) → length (comma_if b) ≤ 1
+comma_short true = omega arith
+comma_short false = omega arith
+
+items_end : (b : Bool) (ts : Trees) → 1 ≤ length (items_text b ts)
+items_end b no_items = omega arith
+items_end b (item t ts) = omega (arith, item_length b t ts, items_end true ts)
+
+members_end : (b : Bool) (ms : Members) → 1 ≤ length (members_text b ms)
+members_end b no_members = omega arith
+members_end b (member k t ms) = omega (arith, member_length b k t ms, members_end true ms)
+
+pub most_items_step : (ts : List Tree) (i : ℕ) (t : Tree) (total next part top all : ℕ) → slice_get ts i ≡ Some t → min (length (compact_text t) + 1) top ≤ part → next ≡ min (total + part) top
+    → min all top + 1 ≤ total + length (items_text (nat_lt 0 i) (trees (drop i ts))) → min all top + 1 ≤ next + length (items_text (nat_lt 0 (i + 1)) (trees (drop (i + 1) ts)))
+most_items_step ts i t total next part top all here is grown h =
+    let whole : length (items_text (nat_lt 0 i) (trees (drop i ts))) ≡ length (comma_if (nat_lt 0 i)) + (length (compact_text t) + length (items_text true (trees (drop (i + 1) ts))))
+    = ap (λ us. length (items_text (nat_lt 0 i) (trees us))) (drop_at ts i t here) ∙ item_length (nat_lt 0 i) t (trees (drop (i + 1) ts)) in
+    let rest : length (items_text (nat_lt 0 (i + 1)) (trees (drop (i + 1) ts))) ≡ length (items_text true (trees (drop (i + 1) ts))) = ap (λ b. length (items_text b (trees (drop (i + 1) ts)))) (past_first i) in
+    omega (arith, whole, rest, is, grown, h, comma_short (nat_lt 0 i), items_end true (trees (drop (i + 1) ts)))
+
+pub most_items_done : (ts : List Tree) (i total top all : ℕ) → length ts ≤ i → min all top + 1 ≤ total + length (items_text (nat_lt 0 i) (trees (drop i ts))) → min all top ≤ total
+most_items_done ts i total top all le h =
+    let last : length (items_text (nat_lt 0 i) (trees (drop i ts))) ≡ 1 = ap (λ us. length (items_text (nat_lt 0 i) (trees us))) (drop_past ts i le) in
+    omega (arith, last, h)
+
+pub most_members_step : (es : List Field) (i : ℕ) (k : List ℕ) (t : Tree) (total next part top all : ℕ) → slice_get es i ≡ Some (k, t) → min (length (quoted k) + 2 + length (compact_text t)) top ≤ part → next ≡ min (total + part) top
+    → min all top + 1 ≤ total + length (members_text (nat_lt 0 i) (fields (drop i es))) → min all top + 1 ≤ next + length (members_text (nat_lt 0 (i + 1)) (fields (drop (i + 1) es)))
+most_members_step es i k t total next part top all here is grown h =
+    let whole : length (members_text (nat_lt 0 i) (fields (drop i es))) ≡ length (comma_if (nat_lt 0 i)) + (length (quoted k) + (1 + (length (compact_text t) + length (members_text true (fields (drop (i + 1) es))))))
+    = ap (λ us. length (members_text (nat_lt 0 i) (fields us))) (drop_at es i (k, t) here) ∙ member_length (nat_lt 0 i) k t (fields (drop (i + 1) es)) in
+    let rest : length (members_text (nat_lt 0 (i + 1)) (fields (drop (i + 1) es))) ≡ length (members_text true (fields (drop (i + 1) es))) = ap (λ b. length (members_text b (fields (drop (i + 1) es)))) (past_first i) in
+    omega (arith, whole, rest, is, grown, h, comma_short (nat_lt 0 i), members_end true (fields (drop (i + 1) es)))
+
+pub most_members_done : (es : List Field) (i total top all : ℕ) → length es ≤ i → min all top + 1 ≤ total + length (members_text (nat_lt 0 i) (fields (drop i es))) → min all top ≤ total
+most_members_done es i total top all le h =
+    let last : length (members_text (nat_lt 0 i) (fields (drop i es))) ≡ 1 = ap (λ us. length (members_text (nat_lt 0 i) (fields us))) (drop_past es i le) in
+    omega (arith, last, h)
+
+one_of : (a b : Bool) (p q r s t u v w x : ℕ) → length (cond a (p ∷ q ∷ []) (cond b (r ∷ s ∷ t ∷ u ∷ v ∷ w ∷ []) (x ∷ []))) ≤ 6
+one_of true b p q r s t u v w x = omega arith
+one_of false true p q r s t u v w x = omega arith
+one_of false false p q r s t u v w x = omega arith
+
+escape_short : (b : ℕ) → length (escape_byte b) ≤ 6
+unfolding escape_byte
+escape_short b = one_of (nat_lt 0 (escape_letter b)) (nat_lt b 32) 92 (escape_letter b) 92 117 48 48 (digit_char (b / 16)) (digit_char (b % 16)) b
+
+escapes_short : (bs : List ℕ) → length (escape bs) ≤ 6 * length bs
+escapes_short [] = omega arith
+escapes_short (b ∷ bs) = omega (arith, length-append (escape_byte b) (escape bs), escape_short b, escapes_short bs)
+
+pub most_quoted : (bs : List ℕ) → length (quoted bs) ≤ length bs * 6 + 2
+most_quoted bs = omega (arith, length-append (escape bs) (34 ∷ []), escapes_short bs)

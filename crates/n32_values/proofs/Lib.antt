@@ -10,3 +10,4 @@ pub mod Hexadecimal
 pub mod UrlTexts
 pub mod Lengths
 pub mod Escapes
+pub mod StraightReading

@@ -14,4 +14,5 @@ pub use Rattle.spec_documents.specs.TreeCode
 pub use Rattle.spec_documents.specs.Compact
 pub use Rattle.spec_documents.specs.Base64url
 pub mod Costs
+pub mod Direct
 pub use Rattle.spec_documents.specs.Ids

@@ -1,5 +1,5 @@
 // How long the compact text of a document is, known without printing it.
-ghost use Rattle.std.specs.Prelude.{◌≡◌, ◌+◌, ◌-◌, ◌^◌, ◌≤◌, min, length, nat_lt};
+ghost use Rattle.std.specs.Prelude.{◌≡◌, ◌+◌, ◌-◌, ◌^◌, ◌<◌, ◌≤◌, min, length, nat_lt};
 ghost use Rattle.std.specs.Fmt.{decimal, signed_decimal};
 ghost use Rattle.json.specs.Print.{quoted, escape_byte};
 ghost use Rattle.spec_documents.specs.Compact.{compact_text, comma_if};
@@ -25,6 +25,60 @@ pub fn text_length(node: &Node) -> u64
         Node::Items(list) => items_length(list),
         Node::Members(map) => members_length(map),
     }
+}
+
+/// Whether the compact text of a node has more bytes than a limit. A node whose texts are short enough,
+/// however many of their bytes are escaped, isn't gone through byte by byte.
+pub fn is_longer(node: &Node, limit: u64) -> bool
+    requires { limit < 2 ^ 64 - 1 }
+    ensures { result ≡ nat_lt limit (length (compact_text (tree_of node.now))) }
+{
+    limit < most_length(node) && limit < text_length(node)
+}
+
+// No fewer bytes than the compact text of a node has, or the greatest number: six for each byte of a text.
+#[cycle(most)]
+fn most_length(node: &Node) -> u64
+    ensures { min (length (compact_text (tree_of node.now))) (2 ^ 64 - 1) ≤ result }
+{
+    match node {
+        Node::Null => 4,
+        Node::Truth(_) => 5,
+        Node::Whole(number) => whole_length(*number),
+        Node::Words(text) => most_quoted(text.as_str()),
+        Node::Items(list) => most_items(list),
+        Node::Members(map) => most_members(map),
+    }
+}
+
+#[cycle(most)]
+fn most_items(list: &NodeList) -> u64
+    ensures { min (length (compact_text (items (trees list.now)))) (2 ^ 64 - 1) ≤ result }
+{
+    let mut total: u64 = 2;
+    for i in 0..list.len() {
+        total = total.saturating_add(most_length(list.item(i)).saturating_add(1));
+    }
+    total
+}
+
+#[cycle(most)]
+fn most_members(map: &NodeMap) -> u64
+    ensures { min (length (compact_text (members map.now))) (2 ^ 64 - 1) ≤ result }
+{
+    let mut total: u64 = 2;
+    for i in 0..map.len() {
+        let (name, node) = map.entry(i);
+        let name = most_quoted(name.as_str()).saturating_add(2);
+        total = total.saturating_add(name.saturating_add(most_length(node)));
+    }
+    total
+}
+
+fn most_quoted(text: &str) -> u64
+    ensures { min (length (quoted text.now)) (2 ^ 64 - 1) ≤ result }
+{
+    (text.len() as u64).saturating_mul(6).saturating_add(2)
 }
 
 #[cycle(length)]

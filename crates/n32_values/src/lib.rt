@@ -3,6 +3,7 @@
 
 mod base64url;
 mod bytes;
+mod direct;
 mod doc;
 mod ids;
 mod length;
@@ -20,7 +21,7 @@ pub use base64url::{B64Fault, base64url_text, read_base64url};
 pub use bytes::Bytes;
 pub use doc::Doc;
 pub use ids::{Hex64, hex64_text, read_hex64};
-pub use length::text_length;
+pub use length::{is_longer, text_length};
 pub use list::{DocList, List, TextList};
 pub use memory::NoMemory;
 pub use node::{Node, NodeList, NodeMap, copy_doc, depth};

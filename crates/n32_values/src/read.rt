@@ -9,6 +9,7 @@ ghost use Rattle.n32_values.specs.View.{tree_of};
 ghost use Rattle.spec_documents.specs.Reading.{tree_from, trees_from, members_from, HasReading, ReadsTo, HasOtherNumber, document_of};
 ghost use Rattle.n32_values.specs.Faults.{NoDocument};
 
+use crate::direct::read_direct;
 use crate::doc::Doc;
 use crate::memory::NoMemory;
 use crate::node::{Node, NodeList, NodeMap};
@@ -112,6 +113,7 @@ pub enum DocFault {
 }
 
 /// The document that bytes are read to: one JSON value (RFC 8259). Of two members of one name the last one stands.
+/// Bytes are read by way of `serde_json` only where they are no document, to tell why.
 pub fn read_doc(alloc: Global, bytes: &[u8]) -> Result<Doc, DocFault>
     ensures tree { IfOk result (ReadsTo bytes.now) }
     ensures syntax { result ≡ Err DocFault.Syntax → (d : Data) → HasReading bytes.now d → ⊥ }
@@ -120,6 +122,9 @@ pub fn read_doc(alloc: Global, bytes: &[u8]) -> Result<Doc, DocFault>
     ensures none { IfErr result (λ why. NoDocument why (document_of bytes.now)) }
 {
     documents_are_read();
+    if let Some(doc) = read_direct(alloc, bytes) {
+        return Ok(doc);
+    }
     let value = match Value::from_slice(alloc, bytes) {
         Ok(value) => value,
         Err(error) => return Err(fault_of(&error)),

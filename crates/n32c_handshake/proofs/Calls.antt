@@ -1,5 +1,5 @@
 -- What a call comes to, from what its parts come to.
-use Rattle.std.proofs.Common.{◌≡◌, ⊎_elim, ℕ, ◌<◌, ◌≤◌, List, [], length, true, false, Option, None, IfSome, Result, Ok, Err, refl, sym, ap, subst, ◌∙◌}
+use Rattle.std.proofs.Common.{◌≡◌, ⊎_elim, ℕ, ◌<◌, ◌≤◌, List, [], length, false, Option, None, Result, Ok, Err, refl, sym, ap, subst, ◌∙◌}
 use Rattle.std.specs.Prelude.{is_ok, IsOk}
 use Rattle.std.proofs.lemmas.Bool.{lt-leb, le-leb}
 use Rattle.spec_documents.specs.Chain.{◌>>=◌}
@@ -9,10 +9,11 @@ use Rattle.spec_messages.specs.Limits.{many_records}
 use Rattle.spec_exchange.specs.Outside.{Choice, Read, ReadFails, BadRecord, Putting, Kept, Lost, KeptUntold, Own, Outcome, puts, behind_reading, or_refusal}
 use Rattle.spec_handshake.specs.Refusals.{Refusal, Beyond}
 use Rattle.n32_outside.specs.Contents.{Stays}
-use Rattle.context_store.specs.Stores.{Stored, Holds, NamesBad, IsFirstBad}
+use Rattle.context_store.specs.Stores.{Stored, NamesBad}
 use Rattle.context_store.specs.declared.faults.OpenFault.{OpenFault}
 use Rattle.context_store.specs.declared.faults.OpenFault.TheVariants as opening
 use Rattle.context_store.specs.Changes.{ComesTo, CallBy}
+use Rattle.context_store.proofs.Calls.{IsRead, chosen_read, chosen_bad, chosen_none}
 use Rattle.n32c_handshake.specs.declared.fault.CheckFault.{CheckFault}
 use Rattle.n32c_handshake.specs.declared.fault.CheckFault.TheVariants as checking
 use Rattle.n32c_handshake.specs.declared.fault.HandFault.{HandFault}
@@ -24,14 +25,6 @@ use Rattle.n32c_handshake.specs.Outcome.{Answers, Comes, Keeps, if_room}
 abbrev pub called : {X T : Type 0} → (List Record → Result X Refusal) → (Putting → X → Outcome Refusal T) → Choice → List Record → Outcome Refusal T
 called checks give f records = behind_reading f.reading (or_refusal (checks records) (give f.putting))
 
--- the store is read, and these records are as they were or those that are held
-pub record IsRead (held now : Option (List (List ℕ))) (old new : Stored) : Type 0 where
-  pub told : Stays held now
-  pub holds : Holds now new.records
-  pub few : length new.records ≤ record_limit
-  pub fresh : new.fresh ≡ true
-  pub same : old.fresh ≡ true → new ≡ old
-
 -- ---- the store isn't read
 
 pub unread : {V X T : Type 0} (Is : V → T → Type 0) (checks : List Record → Result X Refusal) (give : Putting → X → Outcome Refusal T) (held now : Option (List (List ℕ))) (old new : Stored) (fault : OpenFault)
@@ -39,19 +32,15 @@ pub unread : {V X T : Type 0} (Is : V → T → Type 0) (checks : List Record �
 unread Is checks give held now old new (opening.Journal number) stays before after first = record {
   choice = record { reading = BadRecord number; putting = Kept };
   records = [];
-  fresh = λ f. cc;
-  read = λ e. cc;
-  few = λ e. cc;
-  bad = λ k e. let same : number ≡ k = cc in subst (λ n. IfSome held (λ texts. IsFirstBad texts n)) same first;
+  chosen = chosen_bad held old Kept number before first;
+  few = λ f. cc;
   comes = record { answer = refl; change = record { told = stays; kept = λ f. cc }; still = λ e. cc };
 }
 unread Is checks give held now old new opening.Keeper stays before after first = record {
   choice = record { reading = ReadFails; putting = Kept };
   records = [];
-  fresh = λ f. cc;
-  read = λ e. cc;
-  few = λ e. cc;
-  bad = λ k e. cc;
+  chosen = chosen_none held old Kept before;
+  few = λ f. cc;
   comes = record { answer = refl; change = record { told = stays; kept = λ f. cc }; still = λ e. cc };
 }
 unread Is checks give held now old new opening.NoMemory stays before after first = record { told = stays; kept = λ f. cc }
@@ -64,10 +53,8 @@ by_put : {V X T : Type 0} (Is : V → T → Type 0) (checks : List Record → Re
 by_put Is checks give held mid now old read new r p w is_read is comes = record {
   choice = record { reading = Read; putting = p };
   records = read.records;
-  fresh = λ f. (refl, ap (λ z. z.records) (is_read.same f));
-  read = λ e. subst (λ z. Holds z read.records) is_read.told is_read.holds;
-  few = λ e. is_read.few;
-  bad = λ k e. cc;
+  chosen = chosen_read held mid old read p is_read;
+  few = λ f. is_read.few;
   comes = subst (λ z. ComesTo (Answers Is r) held now read.records new (or_refusal z (give p))) (sym is) comes;
 }
 

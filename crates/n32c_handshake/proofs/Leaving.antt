@@ -1,5 +1,5 @@
 -- What a finish comes to, and the starts that it leaves, from what its parts come to.
-use Rattle.std.proofs.Common.{◌≡◌, ⊎_elim, ℕ, Bool, List, [], IfSome, false, Option, None, Some, Result, Ok, Err, refl, sym, ap, subst, ◌∙◌}
+use Rattle.std.proofs.Common.{◌≡◌, ⊎_elim, ℕ, Bool, List, [], false, Option, None, Some, Result, Ok, Err, refl, sym, ap, subst, ◌∙◌}
 use Rattle.std.specs.List.{remove}
 use Rattle.spec_documents.specs.Tree.{Tree}
 use Rattle.spec_documents.specs.Gives.{Tells}
@@ -11,7 +11,7 @@ use Rattle.spec_handshake.specs.Refusals.{Refusal, Beyond}
 use Rattle.spec_handshake.specs.Starts.{Start, without_first}
 use Rattle.spec_handshake.specs.Calls as spec
 use Rattle.n32_outside.specs.Contents.{Stays}
-use Rattle.context_store.specs.Stores.{Stored, Holds, NamesBad, IsFirstBad}
+use Rattle.context_store.specs.Stores.{Stored, NamesBad}
 use Rattle.context_store.specs.declared.faults.OpenFault.{OpenFault}
 use Rattle.context_store.specs.declared.faults.OpenFault.TheVariants as opening
 use Rattle.context_store.specs.Changes.{ComesTo}
@@ -24,7 +24,8 @@ use Rattle.n32c_handshake.specs.Faults.{told, of_check, of_opening}
 use Rattle.n32c_handshake.specs.Outcome.{Answers, Keeps, if_room}
 use Rattle.n32c_handshake.specs.Progress.{IsFinished, FinishBy, Finishes, after_put_starts}
 use Rattle.n32c_handshake.specs.Progress as progress
-use Rattle.n32c_handshake.proofs.Calls.{IsRead, after_put, roomy, full}
+use Rattle.context_store.proofs.Calls.{IsRead, chosen_read, chosen_bad, chosen_none}
+use Rattle.n32c_handshake.proofs.Calls.{after_put, roomy, full}
 
 -- the start waits for the document that this is
 abbrev pub awaits : List ℕ → Tree → Start → Bool
@@ -38,10 +39,8 @@ unread held now old new starts node plmn t (opening.Journal number) stays before
   call = record {
     choice = record { reading = BadRecord number; putting = Kept };
     records = [];
-    fresh = λ f. cc;
-    read = λ e. cc;
-    few = λ e. cc;
-    bad = λ k e. let same : number ≡ k = cc in subst (λ n. IfSome held (λ texts. IsFirstBad texts n)) same first;
+    chosen = chosen_bad held old Kept number before first;
+    few = λ f. cc;
     comes = record { answer = refl; change = record { told = stays; kept = λ f. cc }; still = λ e. cc };
   };
   waits = refl;
@@ -50,10 +49,8 @@ unread held now old new starts node plmn t opening.Keeper stays before after fir
   call = record {
     choice = record { reading = ReadFails; putting = Kept };
     records = [];
-    fresh = λ f. cc;
-    read = λ e. cc;
-    few = λ e. cc;
-    bad = λ k e. cc;
+    chosen = chosen_none held old Kept before;
+    few = λ f. cc;
     comes = record { answer = refl; change = record { told = stays; kept = λ f. cc }; still = λ e. cc };
   };
   waits = refl;
@@ -69,10 +66,8 @@ by_put held mid now old read new starts left node plmn t r p w is_read is comes 
   call = record {
     choice = record { reading = Read; putting = p };
     records = read.records;
-    fresh = λ f. (refl, ap (λ z. z.records) (is_read.same f));
-    read = λ e. subst (λ z. Holds z read.records) is_read.told is_read.holds;
-    few = λ e. is_read.few;
-    bad = λ k e. cc;
+    chosen = chosen_read held mid old read p is_read;
+    few = λ f. is_read.few;
     comes = subst (λ z. ComesTo (Answers IsFinished r) held now read.records new (or_refusal z (spec.put_finished p))) (sym is) comes;
   };
   waits = waits ∙ ap (λ z. spec.starts_left (awaits node t) starts (or_refusal z (spec.put_finished p)).result) (sym is);

@@ -100,11 +100,6 @@ seen_taken view xs zero = refl
 seen_taken view [] (suc i) = refl
 seen_taken view (y ∷ ys) (suc i) = ap (λ z. view y ∷ z) (seen_taken view ys i)
 
-pub seen_dropped : {X A : Type 0} (view : X → A) (xs : List X) (i : ℕ) → map view (drop i xs) ≡ drop i (map view xs)
-seen_dropped view xs zero = refl
-seen_dropped view [] (suc i) = refl
-seen_dropped view (y ∷ ys) (suc i) = seen_dropped view ys i
-
 pub seen_removed : {X A : Type 0} (view : X → A) (xs : List X) (i : ℕ) → map view (remove xs i) ≡ remove (map view xs) i
 seen_removed view [] zero = refl
 seen_removed view [] (suc i) = refl

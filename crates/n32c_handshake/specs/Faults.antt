@@ -1,6 +1,5 @@
 -- What the program answers in place of a result, in the words of the definitions.
-use Rattle.std.specs.Prelude.{◌≡◌, ⊤, Option, Some, None, option_map, Result, Err}
-use Rattle.n32_values.specs.View.{tree_of}
+use Rattle.std.specs.Prelude.{◌≡◌, ⊤, Option, Some, None, Result, Err}
 use Rattle.policy_documents.specs.declared.same.PolicyMatch.TheVariants as found
 use Rattle.context_store.specs.declared.faults.OpenFault.{OpenFault}
 use Rattle.context_store.specs.declared.faults.OpenFault.TheVariants as opening
@@ -22,7 +21,7 @@ abbrev pub told : CheckFault → Option spec.Refusal
 told (checking.Form member) = Some (spec.BadForm (member_name member))
 told checking.NoCommonCapability = Some spec.NoCommonCapability
 told checking.NoCommonSuite = Some spec.NoCommonSuite
-told (checking.MappingDiffers number own other) = Some (spec.PolicyDiffers (AtMapping number (option_map tree_of own) (option_map tree_of other)))
+told (checking.MappingDiffers number own other) = Some (spec.PolicyDiffers (AtMapping number own other))
 told checking.TypesDiffer = Some (spec.PolicyDiffers InTypes)
 told checking.ContextUsed = Some spec.ContextUsed
 told checking.NotExpected = Some spec.NotExpected
@@ -36,7 +35,7 @@ Refuses (faults.Form member) wanted = wanted ≡ Err (Own (spec.BadForm (member_
 Refuses faults.NoCommonCapability wanted = wanted ≡ Err (Own spec.NoCommonCapability)
 Refuses faults.NoCommonSuite wanted = wanted ≡ Err (Own spec.NoCommonSuite)
 Refuses (faults.PolicyDiffers found.Same own other) wanted = ⊥
-Refuses (faults.PolicyDiffers (found.Mapping number) own other) wanted = wanted ≡ Err (Own (spec.PolicyDiffers (AtMapping number (option_map tree_of own) (option_map tree_of other))))
+Refuses (faults.PolicyDiffers (found.Mapping number) own other) wanted = wanted ≡ Err (Own (spec.PolicyDiffers (AtMapping number own other)))
 Refuses (faults.PolicyDiffers found.Types own other) wanted = wanted ≡ Err (Own (spec.PolicyDiffers InTypes))
 Refuses faults.ContextUsed wanted = wanted ≡ Err (Own spec.ContextUsed)
 Refuses faults.NotExpected wanted = wanted ≡ Err (Own spec.NotExpected)

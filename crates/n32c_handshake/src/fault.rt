@@ -4,7 +4,7 @@ ghost use Rattle.std.specs.Prelude.{◌≡◌};
 use crate::member::HandMember;
 use crate::read::DocumentRead;
 use context_store::OpenFault;
-use n32_values::{NoMemory, Node};
+use n32_values::{Doc, NoMemory};
 use policy_documents::PolicyMatch;
 
 /// Why a call of the handshake gives nothing.
@@ -21,8 +21,8 @@ pub enum HandFault {
     /// The policies differ, at a mapping or in their types. Of a mapping both sides are told, where they have it.
     PolicyDiffers {
         at: PolicyMatch,
-        own: Option<Node>,
-        other: Option<Node>,
+        own: Option<Doc>,
+        other: Option<Doc>,
     },
     /// The node has used the id.
     ContextUsed,
@@ -46,8 +46,8 @@ pub(crate) enum CheckFault {
     NoCommonSuite,
     MappingDiffers {
         number: u32,
-        own: Option<Node>,
-        other: Option<Node>,
+        own: Option<Doc>,
+        other: Option<Doc>,
     },
     TypesDiffer,
     ContextUsed,

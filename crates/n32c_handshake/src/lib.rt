@@ -25,6 +25,7 @@ pub use closing::{ended, terminate};
 pub use fault::HandFault;
 pub use finishing::{Finished, finish};
 pub use hands::Hands;
+pub use lists::{read_capabilities, read_suites};
 pub use member::HandMember;
 pub use offer::Offer;
 pub use replying::{Replied, answer};

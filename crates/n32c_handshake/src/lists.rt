@@ -5,6 +5,7 @@ ghost use Rattle.std.specs.Option.{option_copied};
 ghost use Rattle.spec_messages.specs.Message.{wanted, text_if, any_text};
 ghost use Rattle.spec_records.specs.RecordDocument as document;
 ghost use Rattle.jwe_flat.specs.View.{suite_view};
+ghost use Rattle.context_records.specs.Reading as records;
 ghost use Rattle.n32_values.specs.View.{tree_of};
 ghost use Rattle.spec_handshake.specs.Documents as spec;
 ghost use Rattle.n32c_handshake.specs.Members.{member_name};
@@ -15,30 +16,27 @@ use crate::capability::{CapabilityList, capability_of};
 use crate::member::HandMember;
 use crate::read::DocumentRead;
 use crate::suites::{SuiteList, suite_of};
+use context_records::RecordRead;
 use doc_forms::{Grammar, text_at};
 use n32_values::{Node, NodeList, NodeMap, Text, TextList};
 use std::alloc::Global;
 
 // The text that an item is.
-fn word_of(node: &Node, member: HandMember) -> Result<&Text, DocumentRead>
-    ensures { Gives told (λ t. t.now) result (wanted (text_if any_text (tree_of node.now)) (member_name member)) }
+fn word_of(node: &Node) -> Result<&Text, RecordRead>
+    ensures { records.Gives (λ t. t.now) result (wanted (text_if any_text (tree_of node.now)) document.no_record) }
 {
     match node {
         Node::Words(text) => Ok(text),
-        _ => Err(DocumentRead::Member(member)),
+        _ => Err(RecordRead::Form),
     }
 }
 
-fn read_capabilities(
-    alloc: Global,
-    list: &NodeList,
-    member: HandMember,
-) -> Result<CapabilityList, DocumentRead>
-    ensures { Gives told (map capability_view) result (wanted (known_words spec.capability_of list.now) (member_name member)) }
+fn known_capabilities(alloc: Global, list: &NodeList) -> Result<CapabilityList, RecordRead>
+    ensures { records.Gives (map capability_view) result (wanted (known_words spec.capability_of list.now) document.no_record) }
 {
     let mut capabilities = CapabilityList::new(alloc);
     for i in 0..list.len() {
-        let word = word_of(list.item(i), member)?;
+        let word = word_of(list.item(i))?;
         if let Some(capability) = capability_of(word.as_str()) {
             capabilities.push(capability)?;
         }
@@ -46,16 +44,12 @@ fn read_capabilities(
     Ok(capabilities)
 }
 
-fn read_suites(
-    alloc: Global,
-    list: &NodeList,
-    member: HandMember,
-) -> Result<SuiteList, DocumentRead>
-    ensures { Gives told (map suite_view) result (wanted (known_words document.suite_of list.now) (member_name member)) }
+fn known_suites(alloc: Global, list: &NodeList) -> Result<SuiteList, RecordRead>
+    ensures { records.Gives (map suite_view) result (wanted (known_words document.suite_of list.now) document.no_record) }
 {
     let mut suites = SuiteList::new(alloc);
     for i in 0..list.len() {
-        let word = word_of(list.item(i), member)?;
+        let word = word_of(list.item(i))?;
         if let Some(suite) = suite_of(word.as_str()) {
             suites.push(suite)?;
         }
@@ -63,33 +57,25 @@ fn read_suites(
     Ok(suites)
 }
 
-/// The capabilities that a member lists; other words are ignored.
+/// The capabilities among the words that a node lists.
 #[tactic(auto, using(spec_documents::proofs::FieldLemmas::views))]
-pub(crate) fn capabilities_at(
-    alloc: Global,
-    object: &NodeMap,
-    member: HandMember,
-) -> Result<CapabilityList, DocumentRead>
-    ensures { Gives told (map capability_view) result (spec.read_at (spec.words_in spec.capability_of) (member_name member) object.now) }
+pub fn read_capabilities(alloc: Global, node: Option<&Node>) -> Result<CapabilityList, RecordRead>
+    ensures { records.Gives (map capability_view) result (wanted (spec.words_in spec.capability_of (option_map (λ n. tree_of n.now) node.entry)) document.no_record) }
 {
-    match object.get(member.name()) {
-        Some(Node::Items(list)) => read_capabilities(alloc, list, member),
-        _ => Err(DocumentRead::Member(member)),
+    match node {
+        Some(Node::Items(list)) => known_capabilities(alloc, list),
+        _ => Err(RecordRead::Form),
     }
 }
 
-/// The suites that a member lists; other words are ignored.
+/// The suites among the words that a node lists.
 #[tactic(auto, using(spec_documents::proofs::FieldLemmas::views))]
-pub(crate) fn suites_at(
-    alloc: Global,
-    object: &NodeMap,
-    member: HandMember,
-) -> Result<SuiteList, DocumentRead>
-    ensures { Gives told (map suite_view) result (spec.read_at (spec.words_in document.suite_of) (member_name member) object.now) }
+pub fn read_suites(alloc: Global, node: Option<&Node>) -> Result<SuiteList, RecordRead>
+    ensures { records.Gives (map suite_view) result (wanted (spec.words_in document.suite_of (option_map (λ n. tree_of n.now) node.entry)) document.no_record) }
 {
-    match object.get(member.name()) {
-        Some(Node::Items(list)) => read_suites(alloc, list, member),
-        _ => Err(DocumentRead::Member(member)),
+    match node {
+        Some(Node::Items(list)) => known_suites(alloc, list),
+        _ => Err(RecordRead::Form),
     }
 }
 

@@ -5,21 +5,30 @@ ghost use Rattle.spec_documents.specs.Gives.{Gives, Tells};
 ghost use Rattle.spec_messages.specs.PolicyDocument.{mapping_tree, ReadsBack};
 ghost use Rattle.spec_handshake.specs.Differences.{AtMapping, difference};
 ghost use Rattle.spec_handshake.specs.Refusals.{PolicyDiffers};
-ghost use Rattle.n32_values.specs.View.{tree_of};
+ghost use Rattle.policy_documents.specs.View.{mapping_view};
 ghost use Rattle.n32c_handshake.specs.Faults.{told};
 
 use crate::fault::CheckFault;
-use n32_values::{NoMemory, Node};
-use policy_documents::{Policy, PolicyMatch, mapping_doc, same_policy};
-use spec_handshake::documents::first_difference_is_told;
+use n32_values::{Doc, NoMemory};
+use policy_documents::{Mapping, Policy, PolicyMatch, mapping_doc, same_policy};
+use spec_handshake::documents::{first_difference_is_told, written_document_is_read};
 use std::alloc::Global;
 
+// A mapping as it is printed, which nests a few levels deep.
+fn printed(alloc: Global, mapping: &Mapping) -> Result<Doc, NoMemory>
+    ensures { IfOk result (λ d. d ≡ mapping_tree (mapping_view mapping.now)) }
+{
+    written_document_is_read();
+    let node = mapping_doc(alloc, mapping)?;
+    Ok(Doc::from_shallow(node))
+}
+
 // Mapping k as it is printed, where the policy has it.
-fn mapping_node(alloc: Global, policy: &Policy, k: u32) -> Result<Option<Node>, NoMemory>
-    ensures { IfOk result (λ o. option_map tree_of o ≡ option_map mapping_tree (slice_get policy.now.mappings k)) }
+fn printed_at(alloc: Global, policy: &Policy, k: u32) -> Result<Option<Doc>, NoMemory>
+    ensures { IfOk result (λ o. o ≡ option_map mapping_tree (slice_get policy.now.mappings k)) }
 {
     match policy.mapping(k) {
-        Some(mapping) => Ok(Some(mapping_doc(alloc, mapping)?)),
+        Some(mapping) => Ok(Some(printed(alloc, mapping)?)),
         None => Ok(None),
     }
 }
@@ -27,10 +36,10 @@ fn mapping_node(alloc: Global, policy: &Policy, k: u32) -> Result<Option<Node>, 
 fn mapping_differs(alloc: Global, own: &Policy, other: &Policy, k: u32) -> CheckFault
     ensures { Tells {B = Unit {0}} (told result) (Err (PolicyDiffers (AtMapping k (option_map mapping_tree (slice_get own.now.mappings k)) (option_map mapping_tree (slice_get other.now.mappings k))))) }
 {
-    let Ok(mine) = mapping_node(alloc, own, k) else {
+    let Ok(mine) = printed_at(alloc, own, k) else {
         return CheckFault::NoMemory;
     };
-    let Ok(theirs) = mapping_node(alloc, other, k) else {
+    let Ok(theirs) = printed_at(alloc, other, k) else {
         return CheckFault::NoMemory;
     };
     CheckFault::MappingDiffers {

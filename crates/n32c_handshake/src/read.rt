@@ -1,5 +1,5 @@
 // Documents are read.
-ghost use Rattle.std.specs.Prelude.{◌≡◌, IfOk};
+ghost use Rattle.std.specs.Prelude.{◌≡◌, IfOk, map as list_map};
 ghost use Rattle.spec_documents.specs.Gives.{Gives};
 ghost use Rattle.n32_values.specs.View.{tree_of};
 ghost use Rattle.spec_messages.specs.PolicyDocument.{chosen};
@@ -12,10 +12,11 @@ ghost use Rattle.n32c_handshake.specs.Members.{member_name};
 ghost use Rattle.n32c_handshake.specs.View.{capability_view, document_view};
 ghost use Rattle.n32c_handshake.specs.Reading.{told, content_view, of_member as as_member};
 
-use crate::capability::{Capability, capability_of};
+use crate::capability::{Capability, CapabilityList, capability_of};
 use crate::document::{Ask, HandDocument, Selection};
-use crate::lists::{capabilities_at, providers_at, suites_at};
+use crate::lists::{providers_at, read_capabilities, read_suites};
 use crate::member::HandMember;
+use crate::suites::SuiteList;
 use context_records::RecordRead;
 use context_records::words::{read_id, read_network, read_node_name, read_suite};
 use doc_forms::{Grammar, text_at};
@@ -81,6 +82,24 @@ fn suite_at(map: &NodeMap, member: HandMember) -> Result<Suite, DocumentRead>
     ensures { Gives told suite_view result (spec.read_at (chosen document.suite_of) (member_name member) map.now) }
 {
     of_member(read_suite(map.get(member.name())), member)
+}
+
+#[tactic(auto, using(crate::proofs::Told::told_member))]
+fn capabilities_at(
+    alloc: Global,
+    map: &NodeMap,
+    member: HandMember,
+) -> Result<CapabilityList, DocumentRead>
+    ensures { Gives told (list_map capability_view) result (spec.read_at (spec.words_in spec.capability_of) (member_name member) map.now) }
+{
+    of_member(read_capabilities(alloc, map.get(member.name())), member)
+}
+
+#[tactic(auto, using(crate::proofs::Told::told_member))]
+fn suites_at(alloc: Global, map: &NodeMap, member: HandMember) -> Result<SuiteList, DocumentRead>
+    ensures { Gives told (list_map suite_view) result (spec.read_at (spec.words_in document.suite_of) (member_name member) map.now) }
+{
+    of_member(read_suites(alloc, map.get(member.name())), member)
 }
 
 fn capability_at(map: &NodeMap, member: HandMember) -> Result<Capability, DocumentRead>

@@ -65,9 +65,6 @@ near_root : (p : Pointer) → nears p [] ≡ true
 near_root [] = refl
 near_root (x ∷ p) = refl
 
-root_near : (q : Pointer) → nears [] q ≡ true
-root_near q = refl
-
 near_by : (x y : List ℕ) (p q : Pointer) (b : Bool) → bytes_eq x y ≡ b → nears (x ∷ p) (y ∷ q) ≡ (if b then nears p q else false)
 near_by x y p q true e = rw (e, bytes-turn x y true e) refl
 near_by x y p q false e = rw (e, bytes-turn x y false e) refl
@@ -102,10 +99,6 @@ map_same (x ∷ xs) = ap (λ ys. x ∷ ys) (map_same xs)
 -- the test of nodes by the pointers behind b
 abbrev behind : Pointer → Test → Test
 behind b f p u = f (b ++ p) u
-
-chosen_map : {A B : Type 0} (g : A → B) (t : Bool) (x : A) (xs : List A) (ys : List B) → map g xs ≡ ys → map g (if t then x ∷ [] else xs) ≡ (if t then g x ∷ [] else ys)
-chosen_map g true x xs ys e = refl
-chosen_map g false x xs ys e = e
 
 -- beneath the token x, the pointers behind b and x are those behind b
 beneath_token : (f : Test) (b : Pointer) (x : List ℕ) (t : Tree) (us : List Pointer)

@@ -1,7 +1,7 @@
 // A policy as it is asked about one message, with its sensitive body elements by location.
-ghost use Rattle.std.specs.Prelude.{◌≡◌, Some, IfOk, OnOk, option_map, map, filter, drop, if◌then◌else◌};
-ghost use Rattle.spec_documents.specs.Tree.{members, no_members, null, get_member, put_member};
-ghost use Rattle.spec_messages.specs.Block.{members_of, or_empty_object};
+ghost use Rattle.std.specs.Prelude.{◌≡◌, Some, IfOk, option_map, map, filter, drop, if◌then◌else◌};
+ghost use Rattle.spec_documents.specs.Tree.{members, no_members, get_member};
+ghost use Rattle.spec_messages.specs.Block.{members_of};
 ghost use Rattle.spec_messages.specs.Policy as spec;
 ghost use Rattle.http_message.specs.Reading.{header_view, kind_view, pair_view, part_view};
 ghost use Rattle.n32_values.specs.View.{tree_of};
@@ -11,6 +11,7 @@ ghost use Rattle.policy_tables.specs.Covered.{Leads, asked, body_pointer, coveri
 use crate::body::is_marked;
 use crate::mapping::mapping_at;
 use crate::secret::{is_secret_header, is_secret_pair, is_secret_segment};
+use doc_forms::{lifted, members_in};
 use http_message::{Header, Kind, Pair, Part};
 use json_ptr::Pointer;
 use n32_values::{NoMemory, Node, NodeMap, Text};
@@ -174,27 +175,6 @@ fn next<'a>(below: Option<&'a Node>, token: &str) -> Option<&'a Node>
         return Some(node);
     }
     member_at(node, token)
-}
-
-// The members of an object, and none of another node.
-fn members_in(alloc: Global, node: Node) -> NodeMap
-    ensures { result ≡ members_of (tree_of node) }
-{
-    match node {
-        Node::Members(map) => map,
-        _ => NodeMap::new(alloc),
-    }
-}
-
-// Takes a member out, and leaves a null in its place. Where there is none an empty object is given.
-fn lifted(alloc: Global, map: &mut NodeMap, name: &Text) -> Result<Node, NoMemory>
-    ensures node { IfOk result (λ n. tree_of n ≡ or_empty_object (get_member name.now map.old)) }
-    ensures map { OnOk result (map.new ≡ put_member name.now null map.old) }
-{
-    match map.put(name.copy(alloc)?, Node::Null)? {
-        Some(node) => Ok(node),
-        None => Ok(Node::Members(NodeMap::new(alloc))),
-    }
 }
 
 // The tree with one more pointer, from one of its tokens on.

@@ -2,3 +2,4 @@ pub mod ListedEntries
 pub mod WrittenValues
 mod BlockRead
 mod DocumentRead
+mod OrderedValues

@@ -3,6 +3,7 @@
 ghost use Rattle.std.specs.Prelude.{◌≡◌, ◌≤◌, Some, None, Err, IfOk, option_map};
 ghost use Rattle.spec_documents.specs.Tree.{items_depth, trees, items_in};
 ghost use Rattle.n32_values.specs.View.{tree_of};
+ghost use Rattle.spec_messages.specs.Steps.{InOrder};
 ghost use Rattle.spec_sealing.specs.Plaintext.{plaintext, values_in, values_of};
 
 use doc_forms::put;
@@ -21,16 +22,21 @@ pub enum ValuesRead {
 }
 
 /// The values of a plaintext: a bare list, or the list at `dataToEncrypt` of an object, whose other
-/// members are ignored. `NoList` comes exactly where the definition gives none.
+/// members are ignored. Their names are in order. `NoList` comes exactly where the definition gives none.
+#[tactic(auto, using(crate::proofs::OrderedValues::values_ordered))]
 pub fn read_values(alloc: Global, bytes: &[u8]) -> Result<NodeList, ValuesRead>
     ensures values { IfOk result (λ vs. values_of bytes.now ≡ Some vs) }
     ensures none { result ≡ Err ValuesRead.NoList → values_of bytes.now ≡ None }
+    ensures ordered { IfOk result (λ vs. InOrder vs) }
 {
     match read_doc(alloc, bytes) {
-        Ok(doc) => match values_in(doc.into_node()) {
-            Some(values) => Ok(values),
-            None => Err(ValuesRead::NoList),
-        },
+        Ok(doc) => {
+            let _known = doc.node();
+            match values_in(doc.into_node()) {
+                Some(values) => Ok(values),
+                None => Err(ValuesRead::NoList),
+            }
+        }
         Err(DocFault::Syntax) => Err(ValuesRead::NoList),
         Err(DocFault::Number) => Err(ValuesRead::NoList),
         Err(DocFault::NoMemory) => Err(ValuesRead::NoMemory),

@@ -1,5 +1,6 @@
 mod BlockTold
 mod Calls
+mod Commuting
 mod Counts
 mod Failures
 mod Filling

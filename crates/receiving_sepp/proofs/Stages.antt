@@ -1,32 +1,38 @@
 -- The stages that are taken together, within the checks of a document.
 use Rattle.std.proofs.Common.{◌≡◌, ℕ, List, [], length, Bool, true, false, Option, Some, None, Result, Ok, Err, refl, ap, sym, subst, ◌∙◌}
 use Rattle.std.specs.Prelude.{nat_le, not, unwrap_or}
-use Rattle.spec_documents.specs.Tree.{Tree}
+use Rattle.spec_documents.specs.Tree.{Tree, is_ordered}
 use Rattle.spec_documents.specs.Chain.{◌>>=◌}
 use Rattle.spec_documents.specs.Gives.{Tells}
 use Rattle.spec_documents.proofs.Chains.{bind_at, tells_on, tells_past}
-use Rattle.spec_messages.specs.Message.{Message, wanted}
+use Rattle.spec_messages.specs.Message.{Kind, Message, wanted}
+use Rattle.spec_messages.specs.Block.{IsBlock}
+use Rattle.spec_messages.specs.Steps.{InOrder}
 use Rattle.spec_messages.specs.Fault.{BlockFault}
 use Rattle.spec_messages.specs.Rebuilt.{FillFault}
 use Rattle.spec_messages.specs.Split.{fill_whole}
 use Rattle.spec_messages.specs.Policy.{Policy}
 use Rattle.spec_records.specs.Records.{Context, KeySet, Record, record_limit, open_context, keys}
 use Rattle.spec_sealing.specs.Plaintext.{values_of}
+use Rattle.spec_sealing.specs.Jwe.{Jwe}
 use Rattle.spec_sealing.specs.Received.{Received, received}
 use Rattle.context_store.specs.Changes.{with_room}
 use Rattle.spec_exchange.specs.Chain.{unless, or_refused}
 use Rattle.spec_exchange.specs.ReceivingRefusals as receiving
 use Rattle.spec_exchange.specs.ReceivingRefusals.{Form, NoContext, NoReceiveKeys, Reconstruction, NoRoom}
 use Rattle.spec_exchange.specs.Rebuilding.{no_values, no_block, no_fill, read_block, filled_with}
-use Rattle.spec_exchange.specs.FirstFailed as stages
-use Rattle.spec_exchange.specs.FirstFailed.{Delivery, delivery_at, is_first, is_sealed, key_for, opens, has_room}
+use Rattle.spec_exchange.specs.Stages as stages
+use Rattle.spec_exchange.specs.Stages.{delivery_at, is_first, is_sealed, key_for, opens, has_room}
 use Rattle.spec_exchange.specs.AcceptRefusals.{Refusal, Receiving, Screened}
 use Rattle.spec_exchange.specs.Asked.{MappedBy, asked_for, mapping_by}
 use Rattle.spec_exchange.specs.EntryChecks.{Verifying, entries_applied}
 use Rattle.spec_exchange.specs.Screens.{Passes}
 use Rattle.spec_exchange.specs.Accepting.{stage, formed, sealed_values, terms_of, is_passed, first_failed, first_failed_of}
-use Rattle.spec_exchange.proofs.ChainLemmas.{bind_then, ok_same}
+use Rattle.spec_exchange.proofs.ChainLemmas.{bind_then, ok_same, wanted_ok}
+use Rattle.spec_exchange.proofs.AcceptLemmas.{stage_ok}
 use Rattle.receiving_sepp.specs.Groups.{keyed, first_asked, Unsealed, unsealed, Rebuilt, rebuilt_block, Revealed, revealed, outline_of, Opened, opened, changed_in, delivery_of, ending}
+use Rattle.receiving_sepp.specs.Outcome.{IsOrdered}
+use Rattle.receiving_sepp.specs.Refilling.{Stands}
 
 -- ---- chains
 
@@ -220,6 +226,69 @@ opened_none records node t o e d is none =
     bind_then _ _ o e2 λ x e_revealed e3.
     let P : Opened → Type 0 = λ o. o.outline.entries ≡ [] in
     subst P (ok_same {E = Refusal} _ o e3) (subst (λ (z : Received). z.entries ≡ []) (same_parts t d w is e_form) none)
+
+-- ---- order
+
+-- what is unsealed was opened with the keys of the context
+unsealed_parts : (records : List Record) (node : List ℕ) (id : ℕ) (kind : Kind) (message : ℕ) (w : Jwe) (u : Unsealed) → unsealed records node id kind message w ≡ Ok u
+    → (k : stages.KeyedContext) × (stages.keyed_context records node id ≡ Ok k) × (opens (key_for kind k) w ≡ Ok u.plain)
+unsealed_parts records node id kind message w u e =
+    bind_then _ _ u e λ k e_keyed e1.
+    bind_then _ _ u e1 λ plain e_open e2.
+    bind_then _ _ u e2 λ by e_by e3.
+    let same = ok_same {E = Refusal} _ u e3 in
+    let P : Unsealed → Type 0 = λ z. opens (key_for kind k) w ≡ Ok z.plain in
+    (k, stage_ok (stages.keyed_context records node id) k (sym (keyed-is records node id) ∙ e_keyed), subst P same (stage_ok (opens (key_for kind k) w) plain e_open))
+
+listed_values : (plain : List ℕ) (vs : List Tree) → values_of plain ≡ Some vs → sealed_values plain ≡ vs
+listed_values plain vs e = ap (λ (o : Option (List Tree)). unwrap_or o []) e
+
+-- the block and the values of what is rebuilt
+rebuilt_parts : (block : Tree) (plain : List ℕ) (m : Rebuilt) → rebuilt_block block plain ≡ Ok m → (m.block ≡ block) × (m.values ≡ sealed_values plain)
+rebuilt_parts block plain m e =
+    bind_then _ _ m e λ vs e_values e1.
+    bind_then _ _ m e1 λ holed e_block e2.
+    bind_then _ _ m e2 λ content e_fill e3.
+    let same = ok_same {E = Refusal} _ m e3 in
+    let values = wanted_ok (values_of plain) (Reconstruction no_values) vs (stage_ok (wanted (values_of plain) (Reconstruction no_values)) vs e_values) in
+    (sym (ap (λ (z : Rebuilt). z.block) same), sym (ap (λ (z : Rebuilt). z.values) same) ∙ sym (listed_values plain vs values))
+
+revealed_parts : (policy : Policy) (by : MappedBy) (block : Tree) (plain : List ℕ) (x : Revealed) → revealed policy by block plain ≡ Ok x → (x.rebuilt.block ≡ block) × (x.rebuilt.values ≡ sealed_values plain)
+revealed_parts policy by block plain x e =
+    bind_then _ _ x e λ m e_rebuilt e1.
+    bind_then _ _ x e1 λ u e_sealed e2.
+    let same = ok_same {E = Refusal} _ x e2 in
+    let p = rebuilt_parts block plain m e_rebuilt in
+    (sym (ap (λ (z : Revealed). z.rebuilt.block) same) ∙ p.0, sym (ap (λ (z : Revealed). z.rebuilt.values) same) ∙ p.1)
+
+same_ok : {A E : Type 0} (r : Result A E) (x y : A) → r ≡ Ok x → r ≡ Ok y → x ≡ y
+same_ok {A} {E} r x y e f = ok_same {E = E} x y (sym e ∙ f)
+
+-- a document that is opened has its names in order
+pub opened_ordered : ((j : Tree) (n : ℕ) (c : Message) → IsBlock j n c → is_ordered j ≡ true) → (records : List Record) (node : List ℕ) (t : Tree) (o : Opened) → opened records node t ≡ Ok o → Stands o.revealed.rebuilt → IsOrdered records node t
+opened_ordered law records node t o e stands =
+    bind_then _ _ o e λ w e_form e1.
+    bind_then _ _ o e1 λ u e_unsealed e2.
+    bind_then _ _ o e2 λ x e_revealed e3.
+    let same : x ≡ o.revealed = ap (λ (z : Opened). z.revealed) (ok_same {E = Refusal} _ o e3) in
+    let here : Stands x.rebuilt = subst (λ (z : Revealed). Stands z.rebuilt) (sym same) stands in
+    let p = revealed_parts u.context.policy u.by w.block u.plain x e_revealed in
+    let q = unsealed_parts records node w.context w.kind w.message w.jwe u e_unsealed in
+    let block : is_ordered w.block ≡ true = subst (λ (j : Tree). is_ordered j ≡ true) p.0 (law x.rebuilt.block (length x.rebuilt.values) x.rebuilt.holed here.block) in
+    let values : InOrder (sealed_values u.plain) = subst InOrder p.1 here.ordered in
+    record {
+      block = λ d is. subst (λ (z : Received). is_ordered z.block ≡ true) (sym (same_parts t d w is e_form)) block;
+      values = λ d k plain is has opened_by. by_plain w u q values d k plain (same_parts t d w is e_form) has opened_by;
+    }
+  where
+    by_plain : (w : Received) (u : Unsealed) → ((k : stages.KeyedContext) × (stages.keyed_context records node w.context ≡ Ok k) × (opens (key_for w.kind k) w.jwe ≡ Ok u.plain)) → InOrder (sealed_values u.plain)
+        → (d : Received) (k : stages.KeyedContext) (plain : List ℕ) → d ≡ w → stages.keyed_context records node d.context ≡ Ok k → opens (key_for d.kind k) d.jwe ≡ Ok plain → InOrder (sealed_values plain)
+    by_plain w u q values d k plain is has opened_by =
+        let there : stages.keyed_context records node w.context ≡ Ok k = subst (λ (z : Received). stages.keyed_context records node z.context ≡ Ok k) is has in
+        let keys_are : k ≡ q.0 = same_ok (stages.keyed_context records node w.context) k q.0 there q.1 in
+        let same_plain : opens (key_for w.kind k) w.jwe ≡ Ok plain = subst (λ (z : Received). opens (key_for z.kind k) z.jwe ≡ Ok plain) is opened_by in
+        let plain_is : plain ≡ u.plain = same_ok (opens (key_for w.kind k) w.jwe) plain u.plain same_plain (subst (λ (z : stages.KeyedContext). opens (key_for w.kind z) w.jwe ≡ Ok u.plain) (sym keys_are) q.2) in
+        subst (λ (ps : List ℕ). InOrder (sealed_values ps)) (sym plain_is) values
 
 -- ---- the screen
 

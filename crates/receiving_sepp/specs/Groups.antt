@@ -14,7 +14,7 @@ use Rattle.context_store.specs.Changes.{with_room}
 use Rattle.spec_exchange.specs.Chain.{or_refused}
 use Rattle.spec_exchange.specs.ReceivingRefusals.{NoContext, NoReceiveKeys, Reconstruction, NoRoom}
 use Rattle.spec_exchange.specs.Rebuilding.{no_values, no_block, no_fill, read_block, filled_with}
-use Rattle.spec_exchange.specs.FirstFailed.{KeyedContext, Delivery, key_for, opens, is_first, is_sealed}
+use Rattle.spec_exchange.specs.Stages.{KeyedContext, Delivery, key_for, opens, is_first, is_sealed}
 use Rattle.spec_exchange.specs.AcceptRefusals.{Refusal, Receiving}
 use Rattle.spec_exchange.specs.Route.{route}
 use Rattle.spec_exchange.specs.Asked.{MappedBy, asked_for, mapping_by}

@@ -6,12 +6,14 @@ use Rattle.spec_messages.specs.Block.{IsBlock, clear_message}
 use Rattle.spec_messages.specs.Fault.{block_fault}
 use Rattle.spec_messages.specs.Rebuilt.{fill_fault}
 use Rattle.spec_messages.specs.Split.{filled}
+use Rattle.spec_messages.specs.Steps.{InOrder}
 use Rattle.receiving_sepp.specs.Groups.{Rebuilt}
 
--- the values fill the message of the block
+-- the values, whose names are in order, fill the message of the block
 pub record Stands (m : Rebuilt) : Type 0 where
   pub block : IsBlock m.block (length m.values) m.holed
   pub filled : filled m.values m.holed ≡ Some m.content
+  pub ordered : InOrder m.values
 
 -- the values fill the message
 abbrev pub Fits : List Tree → Message → Type 0

@@ -18,7 +18,7 @@ use Rattle.spec_exchange.specs.ReceivingRefusals as receiving
 use Rattle.spec_exchange.specs.AcceptRefusals as spec
 use Rattle.spec_exchange.specs.AcceptRefusals.{Receiving}
 use Rattle.spec_exchange.specs.Asked as asked
-use Rattle.spec_exchange.specs.FirstFailed as stages
+use Rattle.spec_exchange.specs.Stages as stages
 use Rattle.entry_checks.specs.Views as entries
 use Rattle.receiving_sepp.specs.declared.refused.RebuildWhy.{RebuildWhy}
 use Rattle.receiving_sepp.specs.declared.refused.RebuildWhy.TheVariants.{Values, Block, NotText, Depth}

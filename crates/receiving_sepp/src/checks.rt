@@ -4,7 +4,7 @@ ghost use Rattle.spec_documents.specs.Text.{is_node_name};
 ghost use Rattle.spec_sealing.specs.Received.{Received, received};
 ghost use Rattle.entry_checks.specs.Verifiers.{UnderVerifier};
 ghost use Rattle.message_screens.specs.Screening.{IsScreen, rule_of};
-ghost use Rattle.receiving_sepp.specs.Outcome.{ChecksOut};
+ghost use Rattle.receiving_sepp.specs.Outcome.{ChecksOut, IsOrdered};
 
 use crate::changing::change;
 use crate::faults::CheckFault;
@@ -15,6 +15,7 @@ use http_message::{Kind, Message};
 use message_screens::{Screen, ScreenRule};
 use n32_outside::Verifier;
 use n32_values::{Doc, Hex64, PlmnId, Text};
+use spec_messages::blocks::fault_decides;
 use std::alloc::Global;
 
 // A document that passed all checks, but for the limit on records.
@@ -40,10 +41,12 @@ pub(crate) fn check<V: Verifier, R: ScreenRule, F: Fn(&Message, &PlmnId) -> bool
     ensures checks { UnderVerifier (V.meaning verifier.old) (V.faults verifier.old) (V.faults verifier.new)
         (λ v. ChecksOut (R.passes (rule_of screen.now)) v store.now.records node.now document.now result) }
     ensures named { IfOk result (λ _. IsTrue (is_node_name node.now)) }
+    ensures ordered { IfOk result (λ _. IsOrdered store.now.records node.now document.now) }
     ensures same_meaning { V.meaning verifier.new ≡ V.meaning verifier.old }
     ensures later { V.faults verifier.old ≤ V.faults verifier.new }
     ensures unasked { (d : Received) → received document.now ≡ Ok d → d.entries ≡ [] → verifier.new ≡ verifier.old }
 {
+    fault_decides();
     let opened = match open_document(alloc, store, node, document) {
         Ok(opened) => opened,
         Err(fault) => return Err(fault),

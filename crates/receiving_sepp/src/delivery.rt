@@ -9,7 +9,7 @@ use crate::checks::Checked;
 use crate::faults::AcceptFault;
 use crate::refused::Refused;
 use context_records::Record;
-use context_store::{AddFault, Store};
+use context_store::{AddFault, CallFault, Store};
 use http_message::{Kind, Message};
 use n32_outside::Keeper;
 use n32_values::{Hex64, Text};
@@ -40,7 +40,7 @@ pub(crate) fn deliver<K: Keeper>(
     ensures delivers { Delivers (K.held keeper.old) (K.held keeper.new) store.old store.new (delivery_view node.now checked) result }
     ensures consistent { IsConsistent (K.held keeper.new) store.new }
     ensures later { K.faults keeper.old ≤ K.faults keeper.new }
-    ensures failed { IsErrOf result AcceptFault.Keeper → Rose (K.faults keeper.old) (K.faults keeper.new) }
+    ensures failed { IsErrOf result CallFault.Keeper → Rose (K.faults keeper.old) (K.faults keeper.new) }
 {
     let item = Record::Delivered {
         node: node.copy(alloc)?,

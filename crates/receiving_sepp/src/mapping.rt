@@ -3,7 +3,7 @@ ghost use Rattle.std.specs.Prelude.{◌≡◌};
 ghost use Rattle.spec_documents.specs.Gives.{Gives};
 ghost use Rattle.spec_exchange.specs.Accepting.{stage};
 ghost use Rattle.spec_exchange.specs.Asked as spec;
-ghost use Rattle.spec_exchange.specs.FirstFailed.{is_first};
+ghost use Rattle.spec_exchange.specs.Stages.{is_first};
 ghost use Rattle.http_message.specs.Reading.{kind_view, message_view};
 ghost use Rattle.receiving_sepp.specs.Groups.{first_asked};
 ghost use Rattle.receiving_sepp.specs.Refusing.{told};

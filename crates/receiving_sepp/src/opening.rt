@@ -8,7 +8,7 @@ ghost use Rattle.http_message.specs.Reading.{kind_view};
 ghost use Rattle.jwe_flat.specs.View.{content_key_view, jwe_view};
 ghost use Rattle.context_records.specs.View.{context_view, key_set_view, suite_view};
 ghost use Rattle.spec_exchange.specs.Accepting.{stage};
-ghost use Rattle.spec_exchange.specs.FirstFailed as spec;
+ghost use Rattle.spec_exchange.specs.Stages as spec;
 ghost use Rattle.spec_exchange.specs.ReceivingRefusals as refusals;
 ghost use Rattle.receiving_sepp.specs.Refusing.{told};
 ghost use Rattle.receiving_sepp.specs.Groups.{keyed, unsealed};

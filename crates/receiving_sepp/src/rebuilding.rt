@@ -5,11 +5,12 @@ ghost use Rattle.spec_messages.specs.Block.{IsBlock, clear_message};
 ghost use Rattle.spec_messages.specs.Message.{wanted};
 ghost use Rattle.spec_messages.specs.Fault.{block_fault as fault_of};
 ghost use Rattle.spec_messages.specs.Split.{filled};
+ghost use Rattle.spec_messages.specs.Steps.{InOrder};
 ghost use Rattle.http_message.specs.Reading.{message_view};
 ghost use Rattle.block_forms.specs.Faults.{Refuses};
 ghost use Rattle.spec_exchange.specs.Accepting.{stage};
 ghost use Rattle.spec_exchange.specs.Chain.{or_refused};
-ghost use Rattle.spec_exchange.specs.FirstFailed.{is_sealed};
+ghost use Rattle.spec_exchange.specs.Stages.{is_sealed};
 ghost use Rattle.spec_exchange.specs.Rebuilding as spec;
 ghost use Rattle.spec_exchange.specs.ReceivingRefusals as refusals;
 ghost use Rattle.spec_sealing.specs.Plaintext.{values_of};
@@ -21,7 +22,7 @@ ghost use Rattle.receiving_sepp.specs.Views.{mapped_view, messages_view, rebuilt
 use crate::faults::CheckFault;
 use crate::mapping::{MappedBy, mapping_by};
 use crate::refused::{RebuildWhy, Refused};
-use block_forms::{Block, BlockRead, BlockReading, values_are_few};
+use block_forms::{Block, BlockRead, BlockReading, OpenBlock, values_are_few};
 use http_message::Message;
 use message_rebuilding::{RebuildFault, fill_message};
 use n32_values::{Doc, NoMemory, NodeList};
@@ -57,7 +58,8 @@ struct Holed {
 
 // The values of a plaintext.
 fn values_of(alloc: Global, plain: &[u8]) -> Result<NodeList, CheckFault>
-    ensures { Gives told (λ vs. vs) result (stage (wanted (values_of plain.now) (refusals.Reconstruction spec.no_values))) }
+    ensures values { Gives told (λ vs. vs) result (stage (wanted (values_of plain.now) (refusals.Reconstruction spec.no_values))) }
+    ensures ordered { IfOk result (λ vs. InOrder vs) }
 {
     match read_values(alloc, plain) {
         Ok(values) => Ok(values),
@@ -90,20 +92,19 @@ fn count_of(values: &NodeList) -> u32
 }
 
 // The block that was read, and its message.
-fn holed_of(alloc: Global, reading: BlockReading, count: u32) -> Result<Holed, NoMemory>
-    requires { fault_of reading.0 count ≡ None }
+fn holed_of(alloc: Global, reading: BlockReading, _count: u32) -> Result<Holed, NoMemory>
+    requires { fault_of reading.0 _count ≡ None }
     ensures block { IfOk result (λ h. h.block ≡ reading.0) }
     ensures message { IfOk result (λ h. clear_message reading.0 ≡ Some (message_view h.message)) }
-    ensures stands { IfOk result (λ h. IsBlock reading.0 count (message_view h.message)) }
+    ensures stands { IfOk result (λ h. IsBlock reading.0 _count (message_view h.message)) }
 {
     block_has_one_message();
     let _known = reading.doc().node();
-    let doc = reading.doc().copy(alloc)?;
-    match reading.into_message(alloc) {
-        Ok(message) => Ok(Holed {
-            block: Block::of_doc(doc, count),
-            message,
-        }),
+    match reading.into_all(alloc) {
+        Ok(all) => {
+            let OpenBlock { block, message, .. } = all;
+            Ok(Holed { block, message })
+        }
         Err(refused) => Err(refused),
     }
 }

@@ -6,7 +6,7 @@ use Rattle.std.specs.declared.cmp.Ordering.TheVariants.{Less, Equal, Greater}
 use Rattle.std.specs.Ordering.{match_ordering}
 use Rattle.std.proofs.lemmas.List.{length-append}
 use Rattle.std.proofs.lemmas.Bool.{lt-ltb, ltb-true}
-use Rattle.spec_documents.specs.Tree.{Tree, null, truth, whole, words, items, members, Trees, item, Members, no_members, member, trees, tree_list, name_cmp}
+use Rattle.spec_documents.specs.Tree.{Tree, null, truth, whole, words, items, members, Members, no_members, member, trees, tree_list, name_cmp}
 use Rattle.spec_documents.specs.Fields.{Field, fields, field_list, AllAfter, AreAscending}
 use Rattle.spec_documents.specs.Place.{Pointer, pointer_text}
 use Rattle.spec_documents.specs.Text.{index_text}
@@ -29,14 +29,6 @@ secret_hole test q n (words s) h = rw h refl
 secret_hole test q n (items ts) h = rw h refl
 secret_hole test q n (members ms) h = rw h refl
 
-pub secret_stands : (test : Pointer → Tree → Bool) (q : Pointer) (t : Tree) → test q t ≡ true → stood (outermost test q t) ≡ t ∷ []
-secret_stands test q null h = rw h refl
-secret_stands test q (truth b) h = rw h refl
-secret_stands test q (whole z) h = rw h refl
-secret_stands test q (words s) h = rw h refl
-secret_stands test q (items ts) h = rw h refl
-secret_stands test q (members ms) h = rw h refl
-
 -- ---- counting
 
 pub stood-append : {S : Type 0} (xs ys : List (S × Tree)) → stood (xs ++ ys) ≡ stood xs ++ stood ys
@@ -46,9 +38,6 @@ length_stood : {S : Type 0} (vs grown : List Tree) (ss : List (S × Tree)) → g
 length_stood vs grown ss e = let a = length-append vs (stood ss) in let m = length-map (λ s. s.1) ss in ap length e ∙ omega (arith, a, m)
 
 -- ---- lists
-
-tree_list-one : (t : Tree) (ts : Trees) → tree_list (item t ts) ≡ (t ∷ []) ++ tree_list ts
-tree_list-one t ts = refl
 
 pub list_step : (test : Pointer → Tree → Bool) (q : Pointer) (all : List Tree) (i : ℕ) (t u : Tree) (vs more out grown sum : List Tree) → slice_get all i ≡ Some t
     → more ≡ vs ++ stood (outermost test (q ++ index_text i ∷ []) t) → u ≡ hide test (q ++ index_text i ∷ []) (length vs) t → grown ≡ out ++ u ∷ []
@@ -77,9 +66,6 @@ pub list_done : (test : Pointer → Tree → Bool) (q : Pointer) (all : List Tre
 list_done test q all i n m out le h =
     ap trees (sym (append-nil out) ∙ ap (λ ts. out ++ tree_list (hide_items test q i n (trees ts))) (sym (drop_past all i le)) ∙ h) ∙ trees-list (hide_items test q 0 m (trees all))
 
-pub list_stood_done : (test : Pointer → Tree → Bool) (q : Pointer) (all : List Tree) (i : ℕ) (vs sum : List Tree) → length all ≤ i → vs ++ stood (outermost_items test q i (trees (drop i all))) ≡ sum → vs ≡ sum
-list_stood_done test q all i vs sum le h = sym (append-nil vs) ∙ ap (λ ts. vs ++ stood (outermost_items test q i (trees ts))) (sym (drop_past all i le)) ∙ h
-
 -- ---- objects
 
 pub map_step : (test : Pointer → Tree → Bool) (q : Pointer) (all : List Field) (i : ℕ) (k l : List ℕ) (t u : Tree) (vs more : List Tree) (out grown sum : List Field) → slice_get all i ≡ Some (k, t)
@@ -107,9 +93,6 @@ pub map_done : (test : Pointer → Tree → Bool) (q : Pointer) (all : List Fiel
     → field_list out ++ field_list (hide_members test q n (fields (drop i all))) ≡ field_list hidden → out ≡ hidden
 map_done test q all i n out hidden le h =
     same_fields out hidden (sym (append-nil (field_list out)) ∙ ap (λ es. field_list out ++ field_list (hide_members test q n (fields es))) (sym (drop_past all i le)) ∙ h)
-
-pub map_stood_done : (test : Pointer → Tree → Bool) (q : Pointer) (all : List Field) (i : ℕ) (vs sum : List Tree) → length all ≤ i → vs ++ stood (outermost_members test q (fields (drop i all))) ≡ sum → vs ≡ sum
-map_stood_done test q all i vs sum le h = sym (append-nil vs) ∙ ap (λ es. vs ++ stood (outermost_members test q (fields es))) (sym (drop_past all i le)) ∙ h
 
 -- ---- names stay in order
 
@@ -161,20 +144,8 @@ leaf_if : (b : Bool) (q : Pointer) (n : ℕ) (t : Tree) → leaves q t ≡ (q, t
 leaf_if true q n t h = refl
 leaf_if false q n t h = h
 
-pub null_leaf : (test : Pointer → Tree → Bool) (q : Pointer) (n : ℕ) → leaves q (hide test q n null) ≡ (q, hide test q n null) ∷ []
-null_leaf test q n = leaf_if (test q null) q n null refl
-
-pub truth_leaf : (test : Pointer → Tree → Bool) (q : Pointer) (n : ℕ) (b : Bool) → leaves q (hide test q n (truth b)) ≡ (q, hide test q n (truth b)) ∷ []
-truth_leaf test q n b = leaf_if (test q (truth b)) q n (truth b) refl
-
 pub whole_leaf : (test : Pointer → Tree → Bool) (q : Pointer) (n : ℕ) (z : ℤ) → leaves q (hide test q n (whole z)) ≡ (q, hide test q n (whole z)) ∷ []
 whole_leaf test q n z = leaf_if (test q (whole z)) q n (whole z) refl
-
-pub words_leaf : (test : Pointer → Tree → Bool) (q : Pointer) (n : ℕ) (s : List ℕ) → leaves q (hide test q n (words s)) ≡ (q, hide test q n (words s)) ∷ []
-words_leaf test q n s = leaf_if (test q (words s)) q n (words s) refl
-
-pub items_leaf : (test : Pointer → Tree → Bool) (q : Pointer) (n : ℕ) (ts : Trees) → leaves q (hide test q n (items ts)) ≡ (q, hide test q n (items ts)) ∷ []
-items_leaf test q n ts = leaf_if (test q (items ts)) q n (items (hide_items test q 0 n ts)) refl
 
 pub empty_leaf : (test : Pointer → Tree → Bool) (q : Pointer) (n : ℕ) (ms : Members) → length (field_list ms) ≡ 0 → leaves q (hide test q n (members ms)) ≡ (q, hide test q n (members ms)) ∷ []
 empty_leaf test q n no_members e = leaf_if (test q (members no_members)) q n (members no_members) refl
@@ -217,9 +188,6 @@ opened_leaves test q n no_members b sees is on =
 opened_leaves test q n (member k t ms) b sees is on =
     let parts = open_parts (test q (members (member k t ms))) (nat_lt 0 (length (field_list (member k t ms)))) (sym is ∙ on) in
     rw parts.0 (hidden_members test q n k t ms (sees (members (member k t ms)) parts.0))
-
-pub opened_stood : (test : Pointer → Tree → Bool) (q : Pointer) (ms : Members) (b : Bool) → b ≡ (not (test q (members ms)) && nat_lt 0 (length (field_list ms))) → b ≡ true → outermost test q (members ms) ≡ outermost_members test q ms
-opened_stood test q ms b is on = let parts = open_parts (test q (members ms)) (nat_lt 0 (length (field_list ms))) (sym is ∙ on) in rw parts.0 refl
 
 pub unmarked : (a b : Bool) → (a || b) ≡ false → b ≡ false
 unmarked true b h = cc

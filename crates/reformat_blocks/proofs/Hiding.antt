@@ -63,12 +63,6 @@ stood_step view test spot value all i a vs more whole here hidden so_far =
     ∙ stood_by test spot value i (view a) (map view (drop (i + 1) all)) vs more (test i (view a)) refl hidden
     ∙ ap (λ xs. vs ++ stood (numbered test spot value i (map view xs))) (sym (drop_at all i a here)) ∙ so_far
 
-pub hidden_done : {A X : Type 0} (view : A → X) (test : ℕ → X → Bool) (put : ℕ → X → X) (all : List A) (i n : ℕ) (out whole : List X) → length all ≤ i → out ++ hide_each test put i n (map view (drop i all)) ≡ whole → out ≡ whole
-hidden_done view test put all i n out whole le h = sym (append-nil out) ∙ ap (λ xs. out ++ hide_each test put i n (map view xs)) (sym (drop_past all i le)) ∙ h
-
-pub stood_done : {A X : Type 0} (view : A → X) (test : ℕ → X → Bool) (spot : ℕ → Spot) (value : X → Tree) (all : List A) (i : ℕ) (vs whole : List Tree) → length all ≤ i → vs ++ stood (numbered test spot value i (map view (drop i all))) ≡ whole → vs ≡ whole
-stood_done view test spot value all i vs whole le h = sym (append-nil vs) ∙ ap (λ xs. vs ++ stood (numbered test spot value i (map view xs))) (sym (drop_past all i le)) ∙ h
-
 -- one more item of a list, in the words of what it is
 pub pushed : {A X : Type 0} (view : A → X) (out grown : List A) (a : A) (x : X) → grown ≡ out ++ a ∷ [] → view a ≡ x → map view grown ≡ map view out ++ x ∷ []
 pushed view out grown a x e is = ap (map view) e ∙ map-append view out (a ∷ []) ∙ ap (λ y. map view out ++ y ∷ []) is

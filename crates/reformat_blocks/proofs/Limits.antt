@@ -7,8 +7,8 @@ use Rattle.spec_messages.specs.Message.{Message, Header, kind_of}
 use Rattle.spec_messages.specs.Policy.{Policy, is_secret_header, line_secrets, values}
 use Rattle.spec_messages.specs.Split.{cleared, hide_each, hide_header}
 use Rattle.spec_messages.specs.Block.{Meta, at_most, in_limits, unless_empty, part_tree, body_leaves, block_of, sent_block}
-use Rattle.reformat_blocks.specs.Splitting.{splitting}
-use Rattle.block_forms.specs.declared.fault.LimitName.TheVariants as limits
+use Rattle.spec_messages.specs.Splitting.{splitting}
+use Rattle.spec_messages.specs.Limits.{many_headers, many_items, many_values, long_block}
 use Rattle.reformat_blocks.proofs.Hiding.{length-map}
 
 over : (n m : ℕ) → m < n → nat_le n m ≡ false
@@ -40,19 +40,19 @@ items_within : (pol : Policy) (k : Option ℕ) (m : Message) (meta : Meta) → a
 items_within pol k m meta =
     at_most-length 4096 (map (λ i. (pointer_text i.0, i.1)) (body_leaves (cleared pol k m).body)) ∙ ap (λ n. nat_le n 4096) (length-map (λ i. (pointer_text i.0, i.1)) (body_leaves (cleared pol k m).body))
 
-pub over_headers : (pol : Policy) (k : Option ℕ) (m : Message) (meta : Meta) → 256 < length m.headers → splitting pol k m meta ≡ Err limits.Headers
+pub over_headers : (pol : Policy) (k : Option ℕ) (m : Message) (meta : Meta) → 256 < length m.headers → splitting pol k m meta ≡ Err many_headers
 over_headers pol k m meta h = rw (headers_within pol k m meta) (rw (over (length m.headers) 256 h) refl)
 
-pub over_items : (pol : Policy) (k : Option ℕ) (m : Message) (meta : Meta) → length m.headers ≤ 256 → 4096 < length (body_leaves (cleared pol k m).body) → splitting pol k m meta ≡ Err limits.Payload
+pub over_items : (pol : Policy) (k : Option ℕ) (m : Message) (meta : Meta) → length m.headers ≤ 256 → 4096 < length (body_leaves (cleared pol k m).body) → splitting pol k m meta ≡ Err many_items
 over_items pol k m meta a h = rw (headers_within pol k m meta) (rw (le-leb (length m.headers) 256 a) (rw (items_within pol k m meta) (rw (over (length (body_leaves (cleared pol k m).body)) 4096 h) refl)))
 
-pub over_values : (pol : Policy) (k : Option ℕ) (m : Message) (meta : Meta) → length m.headers ≤ 256 → length (body_leaves (cleared pol k m).body) ≤ 4096 → 1024 < length (values pol k m) → splitting pol k m meta ≡ Err limits.Values
+pub over_values : (pol : Policy) (k : Option ℕ) (m : Message) (meta : Meta) → length m.headers ≤ 256 → length (body_leaves (cleared pol k m).body) ≤ 4096 → 1024 < length (values pol k m) → splitting pol k m meta ≡ Err many_values
 over_values pol k m meta a b h =
     rw (headers_within pol k m meta) (rw (le-leb (length m.headers) 256 a) (rw (items_within pol k m meta) (rw (le-leb (length (body_leaves (cleared pol k m).body)) 4096 b)
     (rw (over (length (values pol k m)) 1024 h) refl))))
 
 pub over_text : (pol : Policy) (k : Option ℕ) (m : Message) (meta : Meta) → length m.headers ≤ 256 → length (body_leaves (cleared pol k m).body) ≤ 4096 → length (values pol k m) ≤ 1024 → 4194304 < length (compact_text (sent_block pol k m meta))
-    → splitting pol k m meta ≡ Err limits.Block
+    → splitting pol k m meta ≡ Err long_block
 over_text pol k m meta a b d h =
     rw (headers_within pol k m meta) (rw (le-leb (length m.headers) 256 a) (rw (items_within pol k m meta) (rw (le-leb (length (body_leaves (cleared pol k m).body)) 4096 b)
     (rw (le-leb (length (values pol k m)) 1024 d) (rw (over (length (compact_text (sent_block pol k m meta))) 4194304 h) refl)))))

@@ -5,7 +5,7 @@ ghost use Rattle.spec_messages.specs.Message.{Message, is_whole, body_depth};
 ghost use Rattle.spec_messages.specs.Policy.{Policy};
 ghost use Rattle.spec_messages.specs.Split.{cleared, filled};
 ghost use Rattle.spec_messages.specs.Block.{Meta, StandsFor, is_meta, is_ordered_body, clear_message};
-ghost use Rattle.reformat_blocks.specs.Splitting.{splitting};
+ghost use Rattle.spec_messages.specs.Splitting.{splitting};
 
 use spec_messages::blocks::{block_has_one_message, sent_block_is_block};
 use spec_messages::fill_after_split;

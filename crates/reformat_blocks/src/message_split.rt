@@ -4,14 +4,15 @@ ghost use Rattle.spec_messages.specs.Block.{is_meta, is_ordered_body};
 ghost use Rattle.spec_messages.specs.Fault.{block_fault};
 ghost use Rattle.spec_messages.specs.Message.{is_whole, body_depth};
 ghost use Rattle.http_message.specs.Reading.{message_view};
-ghost use Rattle.reformat_blocks.specs.Splitting.{splitting, Splits};
+ghost use Rattle.reformat_blocks.specs.Splitting.{Splits};
+ghost use Rattle.spec_messages.specs.Splitting.{splitting};
 ghost use Rattle.block_forms.specs.Metadata.{meta_view};
 
 use crate::block::Split;
 use crate::sent::sent_of;
 use block_forms::{Block, LimitName, Meta};
 use http_message::Message;
-use n32_values::{Doc, NoMemory, text_length};
+use n32_values::{Doc, NoMemory, is_longer};
 use policy_tables::Policy;
 use spec_messages::blocks::{fault_decides, sent_block_is_block};
 use spec_messages::plain::sent_block_is_shallow;
@@ -82,7 +83,7 @@ pub fn split(
     if 1024 < sent.values.len() {
         return Err(SplitFault::Limit(LimitName::Values));
     }
-    if 4_194_304 < text_length(&sent.block) {
+    if is_longer(&sent.block, 4_194_304) {
         return Err(SplitFault::Limit(LimitName::Block));
     }
     Ok(Split {

@@ -121,11 +121,6 @@ exercise_unplayed means messages held held' faults faults' written same le =
     over_any held (λ records. Leaves means messages records held' faults faults' written written status.NoMemory)
     (λ records t. inr (refl, unplayed means messages records held' faults faults' (subst (λ (o : Option (List (List ℕ))). TellsRecords o records) (sym same) t) le))
 
--- by a record or the keeper
-pub exercise_refused : (held held' : Option (List (List ℕ))) (written : Option (List ℕ)) → held' ≡ held → OverRecords held (λ records. (written ≡ written) × TellsRecords held' records)
-exercise_refused held held' written same =
-    over_any held (λ records. (written ≡ written) × TellsRecords held' records) (λ records t. (refl, subst (λ (o : Option (List (List ℕ))). TellsRecords o records) (sym same) t))
-
 -- ---- a front of a summary
 
 front_of_whole : (means : Meanings) (messages : ℕ) (records : List Record) (held : Option (List (List ℕ))) (faults faults' : Counts) (before after : Option (List ℕ)) → SummarisesInPart means messages records held faults faults' before after → WritesFront means messages records before after

@@ -11,6 +11,9 @@ use Rattle.script_loop.specs.Ends.{Ends, Answers, AnswersInPart, MeetsNoLimit}
 use Rattle.script_loop.specs.declared.ending.Ending.{Ending}
 use Rattle.script_loop.specs.declared.ending.Ending.TheVariants as ending
 use Rattle.spec_records.specs.Records.{Record, record_limit}
+use Rattle.spec_handshake.specs.Agreement.{Agrees}
+use Rattle.spec_agreement.specs.ByHandshakes.{OpensByHandshakes}
+use Rattle.spec_agreement.proofs.Runs.{opened_agree}
 use Rattle.spec_script.specs.Steps.{State}
 use Rattle.spec_script.specs.Output.{Answered, Numbered, Output, answers_text, begin}
 use Rattle.context_store.specs.Stores.{AreRecords, Holds}
@@ -63,6 +66,12 @@ one_output means script records answers last faults faults' answered k none unsi
     let p = is_plain means (begin records) 1 (lines_of script) answers last answered (none_rose (count_by tells_keeper answers) faults.keeper faults'.keeper k.keeper none) (none_rose (count_by tells_signer answers) faults.signer faults'.signer k.signer unsigned) (none_rose (count_by tells_verifier answers) faults.verifier faults'.verifier k.verifier unverified) k.sound in
     (ap answers_text p.answers_are, p.last_is)
 
+agreed : (means : Meanings) (script : List ℕ) (records : List Record) (answers : List Numbered) (last : State) → Answered means (begin records) 1 (lines_of script) answers last
+    → records ≡ [] → OpensByHandshakes (lines_of script) answers → Agrees last.records
+agreed means script records answers last answered none by =
+    let P : List Record → Type 0 = λ rs. Answered means (begin rs) 1 (lines_of script) answers last in
+    opened_agree means 1 (lines_of script) answers last (subst P none answered) by
+
 all_of : (means : Meanings) {M : Type 0} (outside : M → Told) (world : M → World) (script : List ℕ) (records : List Record) (old new : M) (before after : Option (List ℕ))
     → TellsRecords (outside old).held records → length records ≤ record_limit → meanings_of (outside old).others ≡ Some means → Begins (world old) records
     → Answers (gives_of outside world) old (lines_of script) new before after → RepliesToAll means script records (outside new).held (counts_of (outside old)) (counts_of (outside new)) before after
@@ -77,6 +86,7 @@ all_of means outside world script records old new before after t few is begins a
       written = subst (Appends before after) w.text a.written;
       held_is = w.held_is;
       causes = w.causes;
+      agree = agreed means script records w.answers w.last answered;
       one = one_output means script records w.answers w.last (counts_of (outside old)) (counts_of (outside new)) answered w.causes;
     }
 

@@ -42,6 +42,7 @@ earlier_all means script records held first faults faults' before after le a = r
   written = a.written;
   held_is = a.held_is;
   causes = earlier_causes a.output.answers first faults faults' le a.causes;
+  agree = a.agree;
   one = λ none unsigned unverified. a.one (λ rose. none (omega (arith, rose, le.keeper))) (λ rose. unsigned (omega (arith, rose, le.signer))) (λ rose. unverified (omega (arith, rose, le.verifier)));
 }
 

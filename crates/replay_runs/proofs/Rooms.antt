@@ -7,10 +7,9 @@ use Rattle.spec_records.specs.Records.{KeySet, Context, Record, record_limit}
 use Rattle.spec_exchange.specs.Chain.{◌>>=◌, unless}
 use Rattle.spec_exchange.specs.Outside.{Choice, Putting, Kept, Lost, KeptUntold, with_put}
 use Rattle.spec_exchange.specs.Screens.{Passes}
-use Rattle.spec_exchange.specs.AcceptCalls as accepting
-use Rattle.spec_exchange.specs.AcceptCalls.{accepted}
+use Rattle.spec_exchange.specs.Calls as accepting
+use Rattle.spec_exchange.specs.Calls.{accepted, Outgoing, sends, protected, delivered_record, sent_record}
 use Rattle.spec_exchange.specs.Accepting.{first_failed}
-use Rattle.spec_exchange.specs.Calls.{Outgoing, sends, protected, delivered_record, sent_record}
 use Rattle.spec_exchange.proofs.ChainLemmas.{puts-some, protected-ok}
 use Rattle.spec_exchange.proofs.AcceptLemmas.{accepted-passed}
 use Rattle.spec_script.specs.Refusals.{Refusal}

@@ -8,6 +8,8 @@ use Rattle.script_loop.specs.Lines.{IsFirstLong, IsWithin, IsTooLarge}
 use Rattle.script_loop.specs.InPart.{Takes, IsNext}
 use Rattle.spec_records.specs.Records.{Record, record_limit}
 use Rattle.spec_exchange.specs.Outside.{Journal, with_put}
+use Rattle.spec_handshake.specs.Agreement.{Agrees}
+use Rattle.spec_agreement.specs.ByHandshakes.{OpensByHandshakes}
 use Rattle.spec_script.specs.Choices.{Choices, Meanings, IsBy}
 use Rattle.replay_runs.specs.Outsiders.{Counts}
 use Rattle.spec_script.specs.Refusals.{Refusal, OfOutside}
@@ -65,6 +67,8 @@ pub record RepliesToAll (means : Meanings) (script : List ℕ) (records : List R
   -- the keeper holds the records of the last state
   pub held_is : TellsRecords held last.records
   pub causes : OutsideAnswers output.answers faults faults'
+  -- where nothing was held, and contexts were opened by handshakes alone, each two that name each other agree
+  pub agree : records ≡ [] → OpensByHandshakes (lines_of script) output.answers → Agrees last.records
   -- where neither keeper nor signer nor verifier failed there is one output, and one last state
   pub one : (Rose faults.keeper faults'.keeper → ⊥) → (Rose faults.signer faults'.signer → ⊥) → (Rose faults.verifier faults'.verifier → ⊥) → (out ≡ plain_output means records script) × (last ≡ plain_state means (begin records) (lines_of script))
 

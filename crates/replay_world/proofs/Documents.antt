@@ -7,11 +7,10 @@ use Rattle.http_message.specs.Reading.{message_view}
 use Rattle.spec_exchange.specs.AcceptRefusals as receiving
 use Rattle.spec_exchange.specs.SendingRefusals as sending
 use Rattle.spec_exchange.specs.Outside.{Choice, Journal, Keeper, Cause, Own, Outside, Outcome}
-use Rattle.spec_exchange.specs.Calls.{Sealed, Outgoing, sends}
-use Rattle.spec_exchange.specs.AcceptCalls.{accepted}
+use Rattle.spec_exchange.specs.Calls.{Sealed, Outgoing, sends, accepted}
 use Rattle.spec_exchange.specs.EntryChecks.{Verifying}
 use Rattle.spec_exchange.specs.Screens.{Passes}
-use Rattle.spec_exchange.specs.FirstFailed.{Delivery}
+use Rattle.spec_exchange.specs.Stages.{Delivery}
 use Rattle.spec_script.specs.Refusals.{OfSending, OfReceiving, of_cause}
 use Rattle.spec_script.specs.Events.{Inject, Reported}
 use Rattle.spec_script.specs.Reports.{report_on}
@@ -21,13 +20,13 @@ use Rattle.spec_script.specs.Answers.{answer_text}
 use Rattle.spec_script.specs.Steps.{State, Step, OnWire, Reports, Refuses, injects, forwards, reports, is_full, plmn_at, delivers, delivery_answer, sends_sealed, sealed_answer, sealed_sent, with_sent}
 use Rattle.sending_sepp.specs.Outcome as sent
 use Rattle.sending_sepp.specs.Sending.{refusal_view as sent_view}
-use Rattle.sending_sepp.specs.declared.fault.ProtectFault.{ProtectFault}
-use Rattle.sending_sepp.specs.declared.fault.ProtectFault.TheVariants as protecting
+use Rattle.sending_sepp.specs.declared.fault.SendFault.{SendFault}
 use Rattle.receiving_sepp.specs.Outcome as received
 use Rattle.receiving_sepp.specs.Views.{refused_view}
 use Rattle.receiving_sepp.specs.declared.delivery.Delivered.{Delivered}
-use Rattle.receiving_sepp.specs.declared.faults.AcceptFault.{AcceptFault}
-use Rattle.receiving_sepp.specs.declared.faults.AcceptFault.TheVariants as accepting
+use Rattle.context_store.specs.declared.call_faults.CallFault.{CallFault}
+use Rattle.receiving_sepp.specs.declared.refused.Refused.{Refused}
+use Rattle.context_store.specs.declared.call_faults.CallFault.TheVariants as calling
 use Rattle.script_lines.specs.AnswerTexts as texts
 use Rattle.script_lines.specs.View.{refusal_view}
 use Rattle.script_lines.specs.declared.refusal.Refusal.{Refusal}
@@ -71,7 +70,7 @@ delivery_gives_up passes v steps held now old new node t x h same sites wire = r
 }
 
 -- a document that is refused
-undelivered_by : (passes : Passes) (v : Verifying) (steps : State → Choice → Step) (held now : Option (List (List ℕ))) (old new : World) (number : ℕ) (node : List ℕ) (t : Tree) (e : AcceptFault) (c : Cause receiving.Refusal) (refusal : Refusal)
+undelivered_by : (passes : Passes) (v : Verifying) (steps : State → Choice → Step) (held now : Option (List (List ℕ))) (old new : World) (number : ℕ) (node : List ℕ) (t : Tree) (e : CallFault Refused) (c : Cause receiving.Refusal) (refusal : Refusal)
     → ((r : Result Delivery (Cause receiving.Refusal)) → received.Answers (Err e) r → r ≡ Err c) → of_cause (λ d. OfReceiving d (report_on t d)) c ≡ refusal_view refusal
     → CallBy (taken passes v node t) (received.Answers (Err e)) held now old.store new.store → ((records : List Record) (f : Choice) → steps (state_of old records) f ≡ delivers (state_of old records) t (taken passes v node t f records))
     → new.sites ≡ old.sites → new.hands ≡ old.hands → new.wire ≡ old.wire → Comes steps held now old new number (Err (unanswered.Refused refusal))
@@ -79,15 +78,15 @@ undelivered_by passes v steps held now old new number node t e c refusal is view
     by_call (taken passes v node t) (received.Answers (Err e)) steps (λ s o. delivers s t o) held now old new.store (Makes (Tells number (Err (unanswered.Refused refusal))) held now old.wire new) h same
     (λ records o a change. record { told = ap (delivery_answer t) (is o.result a) ∙ ap Refuses view; sites = ap sites_view sites; starts = starts; sent = wire; change = change })
 
-pub comes_undelivered : (passes : Passes) (v : Verifying) (steps : State → Choice → Step) (held now : Option (List (List ℕ))) (old new : World) (number : ℕ) (node : List ℕ) (t : Tree) (e : AcceptFault)
+pub comes_undelivered : (passes : Passes) (v : Verifying) (steps : State → Choice → Step) (held now : Option (List (List ℕ))) (old new : World) (number : ℕ) (node : List ℕ) (t : Tree) (e : CallFault Refused)
     → received.Accepts passes v held now old.store new.store node t (Err e) → ((records : List Record) (f : Choice) → steps (state_of old records) f ≡ delivers (state_of old records) t (taken passes v node t f records))
     → new.sites ≡ old.sites → new.hands ≡ old.hands → new.wire ≡ old.wire → Comes steps held now old new number (Err (of_receiving t e))
-comes_undelivered passes v steps held now old new number node t (accepting.Refused r) h same sites starts wire = undelivered_by passes v steps held now old new number node t (accepting.Refused r) (Own (refused_view r)) (refusals.Receiving r (report_on t (refused_view r))) (λ r a. a) refl h same sites starts wire
-comes_undelivered passes v steps held now old new number node t (accepting.Journal k) h same sites starts wire = undelivered_by passes v steps held now old new number node t (accepting.Journal k) (Outside (Journal k)) (refusals.Journal k) (λ r a. a) refl h same sites starts wire
-comes_undelivered passes v steps held now old new number node t accepting.Keeper h same sites starts wire = undelivered_by passes v steps held now old new number node t accepting.Keeper (Outside Keeper) refusals.Keeper (λ r a. a) refl h same sites starts wire
-comes_undelivered passes v steps held now old new number node t accepting.NoMemory h same sites starts wire = gives_up_idly steps held now old new sites wire h.told
+comes_undelivered passes v steps held now old new number node t (calling.Refused r) h same sites starts wire = undelivered_by passes v steps held now old new number node t (calling.Refused r) (Own (refused_view r)) (refusals.Receiving r (report_on t (refused_view r))) (λ r a. a) refl h same sites starts wire
+comes_undelivered passes v steps held now old new number node t (calling.Journal k) h same sites starts wire = undelivered_by passes v steps held now old new number node t (calling.Journal k) (Outside (Journal k)) (refusals.Journal k) (λ r a. a) refl h same sites starts wire
+comes_undelivered passes v steps held now old new number node t calling.Keeper h same sites starts wire = undelivered_by passes v steps held now old new number node t calling.Keeper (Outside Keeper) refusals.Keeper (λ r a. a) refl h same sites starts wire
+comes_undelivered passes v steps held now old new number node t calling.NoMemory h same sites starts wire = gives_up_idly steps held now old new sites wire h.told
 
-gives_up_by_call : (passes : Passes) (v : Verifying) (steps : State → Choice → Step) (held now : Option (List (List ℕ))) (old new : World) (node : List ℕ) (t : Tree) (e : AcceptFault)
+gives_up_by_call : (passes : Passes) (v : Verifying) (steps : State → Choice → Step) (held now : Option (List (List ℕ))) (old new : World) (node : List ℕ) (t : Tree) (e : CallFault Refused)
     → CallBy (taken passes v node t) (received.Answers (Err e)) held now old.store new.store → ((records : List Record) (f : Choice) → steps (state_of old records) f ≡ delivers (state_of old records) t (taken passes v node t f records))
     → new.sites ≡ old.sites → new.wire ≡ old.wire → GivesUp steps held now old new
 gives_up_by_call passes v steps held now old new node t e h same sites wire = record {
@@ -97,13 +96,13 @@ gives_up_by_call passes v steps held now old new node t e h same sites wire = re
 }
 
 -- where memory was refused for a report, the document was refused
-pub refusal_gives_up : (passes : Passes) (v : Verifying) (steps : State → Choice → Step) (held now : Option (List (List ℕ))) (old new : World) (node : List ℕ) (t : Tree) (e : AcceptFault)
+pub refusal_gives_up : (passes : Passes) (v : Verifying) (steps : State → Choice → Step) (held now : Option (List (List ℕ))) (old new : World) (node : List ℕ) (t : Tree) (e : CallFault Refused)
     → received.Accepts passes v held now old.store new.store node t (Err e) → ((records : List Record) (f : Choice) → steps (state_of old records) f ≡ delivers (state_of old records) t (taken passes v node t f records))
     → new.sites ≡ old.sites → new.wire ≡ old.wire → GivesUp steps held now old new
-refusal_gives_up passes v steps held now old new node t accepting.NoMemory h same sites wire = gives_up_idly steps held now old new sites wire h.told
-refusal_gives_up passes v steps held now old new node t (accepting.Refused r) h same sites wire = gives_up_by_call passes v steps held now old new node t (accepting.Refused r) h same sites wire
-refusal_gives_up passes v steps held now old new node t (accepting.Journal k) h same sites wire = gives_up_by_call passes v steps held now old new node t (accepting.Journal k) h same sites wire
-refusal_gives_up passes v steps held now old new node t accepting.Keeper h same sites wire = gives_up_by_call passes v steps held now old new node t accepting.Keeper h same sites wire
+refusal_gives_up passes v steps held now old new node t calling.NoMemory h same sites wire = gives_up_idly steps held now old new sites wire h.told
+refusal_gives_up passes v steps held now old new node t (calling.Refused r) h same sites wire = gives_up_by_call passes v steps held now old new node t (calling.Refused r) h same sites wire
+refusal_gives_up passes v steps held now old new node t (calling.Journal k) h same sites wire = gives_up_by_call passes v steps held now old new node t (calling.Journal k) h same sites wire
+refusal_gives_up passes v steps held now old new node t calling.Keeper h same sites wire = gives_up_by_call passes v steps held now old new node t calling.Keeper h same sites wire
 
 -- ---- sending
 
@@ -135,7 +134,7 @@ unsent_sealed : (wire : List Tree) (c : Cause sending.Refusal) (r : Result Seale
 unsent_sealed wire c r h = ap (λ (z : Result Sealed (Cause sending.Refusal)). with_sent wire (sealed_sent z)) (sym h)
 
 -- a request that is refused
-unsealed_by : (o : Outgoing) (steps : State → Choice → Step) (held now : Option (List (List ℕ))) (old new : World) (number : ℕ) (node : List ℕ) (id : ℕ) (m : Message) (e : ProtectFault) (c : Cause sending.Refusal) (refusal : Refusal)
+unsealed_by : (o : Outgoing) (steps : State → Choice → Step) (held now : Option (List (List ℕ))) (old new : World) (number : ℕ) (node : List ℕ) (id : ℕ) (m : Message) (e : CallFault SendFault) (c : Cause sending.Refusal) (refusal : Refusal)
     → ((r : Result Sealed (Cause sending.Refusal)) → sent.Answers (Err e) r → r ≡ Err c) → of_cause OfSending c ≡ refusal_view refusal
     → CallBy (λ f records. sends f records node id o m) (sent.Answers (Err e)) held now old.store new.store → ((records : List Record) (f : Choice) → steps (state_of old records) f ≡ sends_sealed (state_of old records) (sends f records node id o m))
     → new.sites ≡ old.sites → new.hands ≡ old.hands → new.wire ≡ old.wire → Comes steps held now old new number (Err (unanswered.Refused refusal))
@@ -143,13 +142,13 @@ unsealed_by o steps held now old new number node id m e c refusal is view h same
     by_call (λ f records. sends f records node id o m) (sent.Answers (Err e)) steps sends_sealed held now old new.store (Makes (Tells number (Err (unanswered.Refused refusal))) held now old.wire new) h same
     (λ records r a change. record { told = ap (sealed_answer (length old.wire + 1)) (is r.result a) ∙ ap Refuses view; sites = ap sites_view sites; starts = starts; sent = wire ∙ unsent_sealed old.wire c r.result (is r.result a); change = change })
 
-pub comes_unsealed : (o : Outgoing) (steps : State → Choice → Step) (held now : Option (List (List ℕ))) (old new : World) (number : ℕ) (node : List ℕ) (id : ℕ) (m : Message) (e : ProtectFault)
+pub comes_unsealed : (o : Outgoing) (steps : State → Choice → Step) (held now : Option (List (List ℕ))) (old new : World) (number : ℕ) (node : List ℕ) (id : ℕ) (m : Message) (e : CallFault SendFault)
     → sent.ProtectsAs o held now old.store new.store node id m (Err e) → ((records : List Record) (f : Choice) → steps (state_of old records) f ≡ sends_sealed (state_of old records) (sends f records node id o m))
     → new.sites ≡ old.sites → new.hands ≡ old.hands → new.wire ≡ old.wire → Comes steps held now old new number (Err (of_sending e))
-comes_unsealed o steps held now old new number node id m (protecting.Refused r) h same sites starts wire = unsealed_by o steps held now old new number node id m (protecting.Refused r) (Own (sent_view r)) (refusals.Sending r) (λ r a. a) refl h same sites starts wire
-comes_unsealed o steps held now old new number node id m (protecting.Journal k) h same sites starts wire = unsealed_by o steps held now old new number node id m (protecting.Journal k) (Outside (Journal k)) (refusals.Journal k) (λ r a. a) refl h same sites starts wire
-comes_unsealed o steps held now old new number node id m protecting.Keeper h same sites starts wire = unsealed_by o steps held now old new number node id m protecting.Keeper (Outside Keeper) refusals.Keeper (λ r a. a) refl h same sites starts wire
-comes_unsealed o steps held now old new number node id m protecting.NoMemory h same sites starts wire = gives_up_idly steps held now old new sites wire h.told
+comes_unsealed o steps held now old new number node id m (calling.Refused r) h same sites starts wire = unsealed_by o steps held now old new number node id m (calling.Refused r) (Own (sent_view r)) (refusals.Sending r) (λ r a. a) refl h same sites starts wire
+comes_unsealed o steps held now old new number node id m (calling.Journal k) h same sites starts wire = unsealed_by o steps held now old new number node id m (calling.Journal k) (Outside (Journal k)) (refusals.Journal k) (λ r a. a) refl h same sites starts wire
+comes_unsealed o steps held now old new number node id m calling.Keeper h same sites starts wire = unsealed_by o steps held now old new number node id m calling.Keeper (Outside Keeper) refusals.Keeper (λ r a. a) refl h same sites starts wire
+comes_unsealed o steps held now old new number node id m calling.NoMemory h same sites starts wire = gives_up_idly steps held now old new sites wire h.told
 
 -- ---- putting on the wire
 

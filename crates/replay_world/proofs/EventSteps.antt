@@ -10,8 +10,7 @@ use Rattle.spec_records.specs.RecordDocument.{is_well_named}
 use Rattle.spec_exchange.specs.Chain.{◌>>=◌, unless, or_refused}
 use Rattle.spec_messages.specs.Limits.{full_wire, many_records}
 use Rattle.spec_exchange.specs.Outside.{Choice, Read}
-use Rattle.spec_exchange.specs.Calls.{Outgoing, sends}
-use Rattle.spec_exchange.specs.AcceptCalls.{accepted}
+use Rattle.spec_exchange.specs.Calls.{Outgoing, sends, accepted}
 use Rattle.spec_exchange.specs.Screens.{Passes}
 use Rattle.spec_documents.specs.Patch.{Op}
 use Rattle.spec_sealing.specs.Received.{Received}

@@ -1,14 +1,15 @@
 -- What is known of an event that a document is of: its names are in their grammar, and a document in it is less deep.
 use Rattle.std.proofs.Common.{◌≡◌, ◌≤◌, ℕ, List, Bool, true, false, ◌&&◌, cond, Option, Some, None, Result, Ok, Err, refl, subst, IsTrue, bytes_eq, codes, arith}
-use Rattle.std.specs.Prelude.{unwrap_or, option_and_then}
+use Rattle.std.specs.Prelude.{ℤ, unwrap_or, option_and_then}
 use Rattle.spec_documents.specs.Tree.{Tree, null, truth, whole, words, items, no_items, members, Members, get_member, depth, members_depth}
 use Rattle.spec_documents.specs.Place.{◌>>=◌}
 use Rattle.spec_documents.specs.Text.{is_node_name}
 use Rattle.spec_messages.specs.Message.{wanted, any_text, text_in}
 use Rattle.spec_records.specs.RecordDocument.{ipx_in, are_ipx, suite_of}
 use Rattle.spec_records.proofs.NameLemmas.{passes, ipx_named}
-use Rattle.spec_documents.proofs.TreeLemmas.{got_low}
-use Rattle.spec_script.specs.Events.{Event, AddNode, AddContext, AddKeys, Send, Inject, Deliver, Restart, Pass, Alter, Reported, read_at, node_in, id_in, plmn_in, suite_in, any_value, whole_in, pair_in, first_in, answers_in, identity_in, passed_in, ops_in, pass_event, alter_event, reported_event, node_event, context_event, keys_event, send_event, inject_event, deliver_event, restart_event, event_named, event_of, StartWith, AnswerTo, FinishBy, Terminate, EndBy, start_event, answer_event, finish_event, terminate_event, ended_event}
+use Rattle.spec_documents.proofs.TreeLemmas.{bind_ok, got_low}
+use Rattle.spec_exchange.proofs.ChainLemmas.{ok_same}
+use Rattle.spec_script.specs.Events.{Event, AddNode, AddContext, AddKeys, Send, Inject, Deliver, Restart, Pass, Alter, Reported, reached, read_at, node_in, id_in, plmn_in, suite_in, any_value, whole_in, pair_in, first_in, answers_in, identity_in, passed_in, ops_in, pass_event, alter_event, reported_event, node_event, context_event, keys_event, send_event, inject_event, deliver_event, restart_event, event_named, event_of, StartWith, AnswerTo, FinishBy, Terminate, EndBy, start_event, answer_event, finish_event, terminate_event, ended_event}
 use Rattle.spec_sealing.specs.Header.{object_in}
 use Rattle.spec_handshake.specs.Documents.{capability_of, words_in, id_in as hand_id}
 use Rattle.spec_script.specs.Offers.{HandedOffer, offered_at, any_policy, offer_in}
@@ -27,6 +28,12 @@ name_is k ms node e = step (get_member k ms) (is_some_of (node_in (get_member k 
     step : (o : Option Tree) → node_in o ≡ Some node → is_node_name node ≡ true
     step None e = cc
     step (Some t) e = passes is_node_name t node e
+
+reached_is : (ms : Members) (r : List ℕ × ℤ) → reached ms ≡ Ok r → is_node_name r.0 ≡ true
+reached_is ms r e =
+    let p = bind_ok (read_at node_in (codes "node") ms) (λ node. read_at whole_in (codes "wire") ms >>= λ wire. Ok (node, wire)) r e in
+    let q = bind_ok (read_at whole_in (codes "wire") ms) (λ wire. Ok (p.0, wire)) r p.2 in
+    subst (λ (x : List ℕ × ℤ). is_node_name x.0 ≡ true) (ok_same {E = List ℕ} (p.0, q.0) r q.2) (name_is (codes "node") ms p.0 p.1)
 
 ipx_is : (k : List ℕ) (ms : Members) (ss : List (List ℕ)) → read_at ipx_in k ms ≡ Ok ss → are_ipx ss ≡ true
 ipx_is k ms ss e = ipx_named (get_member k ms) ss (is_some_of (ipx_in (get_member k ms)) k ss e)
@@ -98,10 +105,7 @@ inject_fits ms low =
     ok_fits (Inject document) (omega arith)
 
 deliver_fits : (ms : Members) → AllFit (deliver_event ms)
-deliver_fits ms =
-    bind_fits (read_at node_in (codes "node") ms) _ λ node a.
-    bind_fits (read_at whole_in (codes "wire") ms) _ λ wire b.
-    ok_fits (Deliver node wire) tt
+deliver_fits ms = bind_fits (reached ms) _ λ r a. ok_fits (Deliver r.0 r.1) tt
 
 restart_fits : (ms : Members) → AllFit (restart_event ms)
 restart_fits ms =
@@ -169,16 +173,12 @@ start_fits ms =
 
 answer_fits : (ms : Members) → AllFit (answer_event ms)
 answer_fits ms =
-    bind_fits (read_at node_in (codes "node") ms) _ λ node a.
-    bind_fits (read_at whole_in (codes "wire") ms) _ λ wire b.
+    bind_fits (reached ms) _ λ r a.
     bind_fits (offer_in ms) _ λ offer c.
-    ok_fits (AnswerTo node wire offer) (both_true _ _ (name_is (codes "node") ms node a) ((offer_named ms).named offer c))
+    ok_fits (AnswerTo r.0 r.1 offer) (both_true _ _ (reached_is ms r a) ((offer_named ms).named offer c))
 
 finish_fits : (ms : Members) → AllFit (finish_event ms)
-finish_fits ms =
-    bind_fits (read_at node_in (codes "node") ms) _ λ node a.
-    bind_fits (read_at whole_in (codes "wire") ms) _ λ wire b.
-    ok_fits (FinishBy node wire) tt
+finish_fits ms = bind_fits (reached ms) _ λ r a. ok_fits (FinishBy r.0 r.1) tt
 
 terminate_fits : (ms : Members) → AllFit (terminate_event ms)
 terminate_fits ms =
@@ -187,10 +187,7 @@ terminate_fits ms =
     ok_fits (Terminate node id) tt
 
 ended_fits : (ms : Members) → AllFit (ended_event ms)
-ended_fits ms =
-    bind_fits (read_at node_in (codes "node") ms) _ λ node a.
-    bind_fits (read_at whole_in (codes "wire") ms) _ λ wire b.
-    ok_fits (EndBy node wire) tt
+ended_fits ms = bind_fits (reached ms) _ λ r a. ok_fits (EndBy r.0 r.1) tt
 
 named_fits : (name : List ℕ) (ms : Members) → members_depth ms ≤ 126 → AllFit (event_named name ms)
 named_fits name ms low =

@@ -8,10 +8,10 @@ use Rattle.context_store.specs.declared.faults.OpenFault.{OpenFault}
 use Rattle.context_store.specs.declared.faults.OpenFault.TheVariants as opening
 use Rattle.context_store.specs.declared.faults.AddFault.{AddFault}
 use Rattle.context_store.specs.declared.faults.AddFault.TheVariants as adding
-use Rattle.sending_sepp.specs.declared.fault.ProtectFault.{ProtectFault}
-use Rattle.sending_sepp.specs.declared.fault.ProtectFault.TheVariants as protecting
-use Rattle.receiving_sepp.specs.declared.faults.AcceptFault.{AcceptFault}
-use Rattle.receiving_sepp.specs.declared.faults.AcceptFault.TheVariants as accepting
+use Rattle.sending_sepp.specs.declared.fault.SendFault.{SendFault}
+use Rattle.context_store.specs.declared.call_faults.CallFault.{CallFault}
+use Rattle.receiving_sepp.specs.declared.refused.Refused.{Refused}
+use Rattle.context_store.specs.declared.call_faults.CallFault.TheVariants as calling
 use Rattle.spec_documents.specs.Tree.{Tree}
 use Rattle.spec_documents.specs.Gives as gives
 use Rattle.spec_exchange.specs.Outside.{Choice, Read}
@@ -70,15 +70,6 @@ alone_unfit steps old number why wanted spares sound told same held faults consi
   failed = λ e. absurd (spares e);
 }
 
-pub alone_same : (steps later : State → Choice → Step) (old new : World) (number : ℕ) (result : Result (List ℕ) Unanswered) → ((records : List Record) (f : Choice) → steps (state_of old records) f ≡ later (state_of old records) f)
-    → HandlesAlone later old new number result → HandlesAlone steps old new number result
-alone_same steps later old new number result same h held faults consistent = let g = h held faults consistent in record {
-  comes = comes_same steps later held held old new number result same g.comes;
-  ready = g.ready;
-  later = g.later;
-  failed = g.failed;
-}
-
 -- ---- steps that are others
 
 pub handles_same : (steps later : State → Choice → Step) (held now : Option (List (List ℕ))) (before after_ : ℕ) (old new : World) (number : ℕ) (result : Result (List ℕ) Unanswered)
@@ -125,14 +116,14 @@ unrecorded_keeper adding.Limit h = cc
 unrecorded_keeper adding.Keeper h = refl
 unrecorded_keeper adding.NoMemory h = cc
 
-pub unsent_keeper : (e : ProtectFault) → IsErrOf {T = List ℕ} (Err (of_sending e)) (unanswered.Refused refusals.Keeper) → e ≡ protecting.Keeper
-unsent_keeper (protecting.Refused r) h = cc
-unsent_keeper (protecting.Journal k) h = cc
-unsent_keeper protecting.Keeper h = refl
-unsent_keeper protecting.NoMemory h = cc
+pub unsent_keeper : (e : CallFault SendFault) → IsErrOf {T = List ℕ} (Err (of_sending e)) (unanswered.Refused refusals.Keeper) → e ≡ calling.Keeper
+unsent_keeper (calling.Refused r) h = cc
+unsent_keeper (calling.Journal k) h = cc
+unsent_keeper calling.Keeper h = refl
+unsent_keeper calling.NoMemory h = cc
 
-pub undelivered_keeper : (t : Tree) (e : AcceptFault) → IsErrOf {T = List ℕ} (Err (of_receiving t e)) (unanswered.Refused refusals.Keeper) → e ≡ accepting.Keeper
-undelivered_keeper t (accepting.Refused r) h = cc
-undelivered_keeper t (accepting.Journal k) h = cc
-undelivered_keeper t accepting.Keeper h = refl
-undelivered_keeper t accepting.NoMemory h = cc
+pub undelivered_keeper : (t : Tree) (e : CallFault Refused) → IsErrOf {T = List ℕ} (Err (of_receiving t e)) (unanswered.Refused refusals.Keeper) → e ≡ calling.Keeper
+undelivered_keeper t (calling.Refused r) h = cc
+undelivered_keeper t (calling.Journal k) h = cc
+undelivered_keeper t calling.Keeper h = refl
+undelivered_keeper t calling.NoMemory h = cc

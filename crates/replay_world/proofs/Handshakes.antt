@@ -1,5 +1,5 @@
 -- What the calls of a handshake leave of a world.
-use Rattle.std.proofs.Common.{◌≡◌, ⊎_elim, ℕ, ◌≤◌, List, false, Option, Some, None, Result, Ok, Err, refl, sym, ap, subst, ◌∙◌, inr}
+use Rattle.std.proofs.Common.{◌≡◌, ℕ, ◌≤◌, List, false, Option, Some, None, Result, Ok, Err, refl, sym, ap, subst, ◌∙◌, inr}
 use Rattle.std.specs.Prelude.{option_map, IsErrOf}
 use Rattle.n32_outside.specs.Causes.{Rose}
 use Rattle.spec_documents.specs.Tree.{Tree}
@@ -10,7 +10,6 @@ use Rattle.context_store.specs.Changes.{Nothing, Change, CallBy}
 use Rattle.spec_handshake.specs.Documents.{Document, document_tree}
 use Rattle.spec_handshake.specs.Refusals as handshake
 use Rattle.spec_handshake.specs.Starts.{Start}
-use Rattle.n32_values.specs.View.{tree_of}
 use Rattle.policy_documents.specs.declared.same.PolicyMatch.TheVariants as found
 use Rattle.n32c_handshake.specs.declared.fault.HandFault.{HandFault}
 use Rattle.n32c_handshake.specs.declared.fault.HandFault.TheVariants as faults
@@ -94,7 +93,7 @@ by_called : {X T : Type 0} (Is : X → T → Type 0) (tell : T → Answer) (made
 by_called Is tell made outcome starts steps held now old store left call P h same leaves = record {
   choice = h.by.choice;
   records = h.by.records;
-  chosen = record { fresh = h.by.fresh; read = h.by.read; few = λ stale e. h.by.few e; bad = h.by.bad };
+  chosen = h.by.chosen;
   leaves = subst (λ (r : Step). P h.by.records r)
       (sym (same h.by.records h.by.choice ∙ ap (λ (ss : List Start). shakes (state_of old h.by.records) tell made ss (outcome h.by.choice h.by.records)) (sym h.waits)))
       (leaves h.by.records (outcome h.by.choice h.by.records) h.by.comes.answer h.by.comes.change);
@@ -172,7 +171,7 @@ comes_refused Is tell made outcome starts steps held now old store left number (
 comes_refused Is tell made outcome starts steps held now old store left number faults.NoCommonCapability h same = refused_by Is tell made outcome starts steps held now old store left number faults.NoCommonCapability _ (refusals.Handshake hand.NoCommonCapability) (λ r a. a) refl h same
 comes_refused Is tell made outcome starts steps held now old store left number faults.NoCommonSuite h same = refused_by Is tell made outcome starts steps held now old store left number faults.NoCommonSuite _ (refusals.Handshake hand.NoCommonSuite) (λ r a. a) refl h same
 comes_refused Is tell made outcome starts steps held now old store left number (faults.PolicyDiffers found.Same own other) h same = absurd h.by.comes.answer
-comes_refused Is tell made outcome starts steps held now old store left number (faults.PolicyDiffers (found.Mapping k) own other) h same = refused_by Is tell made outcome starts steps held now old store left number (faults.PolicyDiffers (found.Mapping k) own other) _ (refusals.Handshake (hand.MappingDiffers k (option_map tree_of own) (option_map tree_of other))) (λ r a. a) refl h same
+comes_refused Is tell made outcome starts steps held now old store left number (faults.PolicyDiffers (found.Mapping k) own other) h same = refused_by Is tell made outcome starts steps held now old store left number (faults.PolicyDiffers (found.Mapping k) own other) _ (refusals.Handshake (hand.MappingDiffers k own other)) (λ r a. a) refl h same
 comes_refused Is tell made outcome starts steps held now old store left number (faults.PolicyDiffers found.Types own other) h same = refused_by Is tell made outcome starts steps held now old store left number (faults.PolicyDiffers found.Types own other) _ (refusals.Handshake hand.TypesDiffer) (λ r a. a) refl h same
 comes_refused Is tell made outcome starts steps held now old store left number faults.ContextUsed h same = refused_by Is tell made outcome starts steps held now old store left number faults.ContextUsed _ (refusals.Handshake hand.ContextUsed) (λ r a. a) refl h same
 comes_refused Is tell made outcome starts steps held now old store left number faults.NotExpected h same = refused_by Is tell made outcome starts steps held now old store left number faults.NotExpected _ (refusals.Handshake hand.NotExpected) (λ r a. a) refl h same
@@ -180,23 +179,6 @@ comes_refused Is tell made outcome starts steps held now old store left number f
 comes_refused Is tell made outcome starts steps held now old store left number faults.Limit h same = refused_by Is tell made outcome starts steps held now old store left number faults.Limit _ (refusals.Handshake hand.Limit) (λ r a. a) refl h same
 comes_refused Is tell made outcome starts steps held now old store left number faults.Keeper h same = refused_by Is tell made outcome starts steps held now old store left number faults.Keeper (Outside Keeper) refusals.Keeper (λ r a. a) refl h same
 comes_refused Is tell made outcome starts steps held now old store left number faults.NoMemory h same = gives_up_idly steps held now old (called old store left) refl refl h.told
-
--- where memory was refused for what is told of a refusal
-refusal_gives_up : {X T : Type 0} (Is : X → T → Type 0) (tell : T → Answer) (made : T → Option Document) (outcome : Choice → List Record → Outcome handshake.Refusal T) (starts : Choice → List Record → List Start) (steps : State → Choice → Step)
-    (held now : Option (List (List ℕ))) (old : World) (store : Stored) (left : List Start) (e : HandFault)
-    → Called Is outcome starts held now old.store store left (Err e) → ((records : List Record) (f : Choice) → steps (state_of old records) f ≡ shakes (state_of old records) tell made (starts f records) (outcome f records))
-    → GivesUp steps held now old (called old store left)
-refusal_gives_up Is tell made outcome starts steps held now old store left (faults.Journal k) h same = call_gives_up Is tell made outcome starts steps held now old store left _ h same
-refusal_gives_up Is tell made outcome starts steps held now old store left (faults.Form member) h same = call_gives_up Is tell made outcome starts steps held now old store left _ h same
-refusal_gives_up Is tell made outcome starts steps held now old store left faults.NoCommonCapability h same = call_gives_up Is tell made outcome starts steps held now old store left _ h same
-refusal_gives_up Is tell made outcome starts steps held now old store left faults.NoCommonSuite h same = call_gives_up Is tell made outcome starts steps held now old store left _ h same
-refusal_gives_up Is tell made outcome starts steps held now old store left (faults.PolicyDiffers at own other) h same = call_gives_up Is tell made outcome starts steps held now old store left _ h same
-refusal_gives_up Is tell made outcome starts steps held now old store left faults.ContextUsed h same = call_gives_up Is tell made outcome starts steps held now old store left _ h same
-refusal_gives_up Is tell made outcome starts steps held now old store left faults.NotExpected h same = call_gives_up Is tell made outcome starts steps held now old store left _ h same
-refusal_gives_up Is tell made outcome starts steps held now old store left faults.ContextNotFound h same = call_gives_up Is tell made outcome starts steps held now old store left _ h same
-refusal_gives_up Is tell made outcome starts steps held now old store left faults.Limit h same = call_gives_up Is tell made outcome starts steps held now old store left _ h same
-refusal_gives_up Is tell made outcome starts steps held now old store left faults.Keeper h same = call_gives_up Is tell made outcome starts steps held now old store left _ h same
-refusal_gives_up Is tell made outcome starts steps held now old store left faults.NoMemory h same = gives_up_idly steps held now old (called old store left) refl refl h.told
 
 -- the keeper's own fault
 unshaken_keeper : (e : HandFault) → IsErrOf {T = List ℕ} (Err (of_hand e)) (unanswered.Refused refusals.Keeper) → e ≡ faults.Keeper
@@ -246,17 +228,9 @@ handles_called Is tell made told sent outcome starts steps held now before after
   failed = λ e. cc;
 })
 handles_called Is tell made told sent outcome starts steps held now before after_ old store left new number (Err e) (Ok text) sees h same keeper sound done = absurd done
-handles_called Is tell made told sent outcome starts steps held now before after_ old store left new number (Err e) (Err why) sees h same keeper sound done = rw (done.1) (⊎_elim
-    (λ is. rw is (record {
-      comes = comes_refused Is tell made outcome starts steps held now old store left number e h same;
-      ready = record { consistent = keeper.consistent; sound = called_sound old store left sound };
-      later = keeper.later;
-      failed = λ k. keeper.failed (rw (unshaken_keeper e k) refl);
-    }))
-    (λ none. rw none (record {
-      comes = refusal_gives_up Is tell made outcome starts steps held now old store left e h same;
-      ready = record { consistent = keeper.consistent; sound = called_sound old store left sound };
-      later = keeper.later;
-      failed = λ k. cc;
-    }))
-    done.0)
+handles_called Is tell made told sent outcome starts steps held now before after_ old store left new number (Err e) (Err why) sees h same keeper sound done = rw (done.0, done.1) (record {
+  comes = comes_refused Is tell made outcome starts steps held now old store left number e h same;
+  ready = record { consistent = keeper.consistent; sound = called_sound old store left sound };
+  later = keeper.later;
+  failed = λ k. keeper.failed (rw (unshaken_keeper e k) refl);
+})

@@ -3,7 +3,7 @@ use Rattle.std.proofs.Common.{◌≡◌, ⊎_elim, ℕ, ◌≤◌, List, [], len
 use Rattle.spec_records.specs.Records.{Record, record_limit}
 use Rattle.n32_outside.specs.Contents.{Stays}
 use Rattle.context_store.specs.Stores.{Stored, Holds, IsConsistent}
-use Rattle.context_store.specs.Changes.{Change, CallBy}
+use Rattle.context_store.specs.Changes.{Change, IsChosen, CallBy}
 use Rattle.spec_exchange.specs.Outside.{Choice, Cause, no_fault, Read, ReadFails, Putting, Lost, Outcome}
 use Rattle.spec_script.specs.Refusals as script
 use Rattle.spec_script.specs.Steps.{State, Answer, Step, refuses, with_sent}
@@ -12,7 +12,7 @@ use Rattle.script_lines.specs.declared.refusal.Refusal.{Refusal}
 use Rattle.spec_documents.specs.Gives as gives
 use Rattle.script_lines.specs.Unanswered.{told_refusal}
 use Rattle.replay_world.specs.Worlds.{sites_view, state_of}
-use Rattle.replay_world.specs.Stepping.{IsChosen, StepBy, Makes, HasPut, GivesUp, Tells, Comes}
+use Rattle.replay_world.specs.Stepping.{StepBy, Makes, HasPut, GivesUp, Tells, Comes}
 use Rattle.replay_world.specs.declared.world.World.{World}
 use Rattle.script_lines.specs.declared.unanswered.Unanswered.{Unanswered}
 use Rattle.script_lines.specs.declared.unanswered.Unanswered.TheVariants as unanswered
@@ -206,7 +206,7 @@ pub by_call : {X R : Type 0} (outcome : Choice → List Record → Outcome R X) 
 by_call outcome Answers steps make held now old new P h same leaves = record {
   choice = h.choice;
   records = h.records;
-  chosen = record { fresh = h.fresh; read = h.read; few = λ stale e. h.few e; bad = h.bad };
+  chosen = h.chosen;
   leaves = subst (λ (r : Step). P h.records r) (sym (same h.records h.choice)) (leaves h.records (outcome h.choice h.records) h.comes.answer h.comes.change);
 }
 

@@ -6,11 +6,10 @@ use Rattle.spec_exchange.specs.AcceptRefusals as accepting
 use Rattle.spec_exchange.specs.AcceptRefusals.{Receiving, Unasked, OfEntry, Screened, telling}
 use Rattle.spec_exchange.specs.EntryRefusals.{EntryRefusal, BadForm, OffRoute, VerifierFailed, BadSignature, OtherTag, NotAllowed, entry_telling}
 use Rattle.spec_exchange.specs.ReceivingRefusals as receiving
-use Rattle.spec_exchange.specs.ReceivingRefusals.{Form, NotBuilt, NoContext, NoReceiveKeys, Cipher, Integrity, Replay, Reconstruction, InClear, NoRoom}
+use Rattle.spec_exchange.specs.ReceivingRefusals.{Form, NoContext, NoReceiveKeys, Cipher, Integrity, Replay, Reconstruction, InClear, NoRoom}
 
 plain_fits : (r : receiving.Refusal) → (receiving.telling r).number % 65536 ≡ (receiving.telling r).number
 plain_fits (Form member) = refl
-plain_fits NotBuilt = refl
 plain_fits NoContext = refl
 plain_fits NoReceiveKeys = refl
 plain_fits (Cipher why) = refl

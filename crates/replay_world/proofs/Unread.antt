@@ -7,7 +7,7 @@ use Rattle.spec_exchange.specs.AcceptRefusals as receiving
 use Rattle.spec_exchange.specs.Screens.{Passes}
 use Rattle.spec_exchange.specs.SendingRefusals as sending
 use Rattle.spec_exchange.specs.Outside.{Reading, Read, ReadFails, BadRecord, Outcome, behind_reading, Cause}
-use Rattle.spec_exchange.specs.FirstFailed.{Delivery}
+use Rattle.spec_exchange.specs.Stages.{Delivery}
 use Rattle.spec_exchange.specs.Calls.{Sealed}
 use Rattle.spec_handshake.specs.Documents.{Document, document_tree}
 use Rattle.spec_handshake.specs.Refusals as handshake

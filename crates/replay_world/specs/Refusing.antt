@@ -10,10 +10,11 @@ use Rattle.context_store.specs.declared.faults.AddFault.{AddFault}
 use Rattle.context_store.specs.declared.faults.AddFault.TheVariants as adding
 use Rattle.context_store.specs.declared.faults.OpenFault.{OpenFault}
 use Rattle.context_store.specs.declared.faults.OpenFault.TheVariants as opening
-use Rattle.sending_sepp.specs.declared.fault.ProtectFault.{ProtectFault}
-use Rattle.sending_sepp.specs.declared.fault.ProtectFault.TheVariants as sending
-use Rattle.receiving_sepp.specs.declared.faults.AcceptFault.{AcceptFault}
-use Rattle.receiving_sepp.specs.declared.faults.AcceptFault.TheVariants as receiving
+use Rattle.context_store.specs.declared.call_faults.CallFault.{CallFault}
+use Rattle.context_store.specs.declared.call_faults.CallFault.TheVariants as calling
+use Rattle.sending_sepp.specs.declared.fault.SendFault.{SendFault}
+use Rattle.receiving_sepp.specs.declared.refused.Refused.{Refused}
+use Rattle.script_lines.specs.declared.refusal.Refusal.{Refusal}
 use Rattle.script_lines.specs.declared.refusal.Refusal.TheVariants as refusals
 use Rattle.script_lines.specs.declared.unanswered.Unanswered.{Unanswered}
 use Rattle.script_lines.specs.declared.unanswered.Unanswered.TheVariants as unanswered
@@ -28,11 +29,15 @@ of_adding adding.Limit = unanswered.Refused (refusals.Limit limits.Records)
 of_adding adding.Keeper = unanswered.Refused refusals.Keeper
 of_adding adding.NoMemory = unanswered.NoMemory
 
-abbrev pub of_sending : ProtectFault → Unanswered
-of_sending (sending.Refused refusal) = unanswered.Refused (refusals.Sending refusal)
-of_sending (sending.Journal number) = unanswered.Refused (refusals.Journal number)
-of_sending sending.Keeper = unanswered.Refused refusals.Keeper
-of_sending sending.NoMemory = unanswered.NoMemory
+-- a fault of a call, whose refusal is told so
+abbrev pub of_call : {F : Type 0} → (F → Refusal) → CallFault F → Unanswered
+of_call refusal (calling.Refused fault) = unanswered.Refused (refusal fault)
+of_call refusal (calling.Journal number) = unanswered.Refused (refusals.Journal number)
+of_call refusal calling.Keeper = unanswered.Refused refusals.Keeper
+of_call refusal calling.NoMemory = unanswered.NoMemory
+
+abbrev pub of_sending : CallFault SendFault → Unanswered
+of_sending fault = of_call (λ refusal. refusals.Sending refusal) fault
 
 abbrev pub of_passing : PassFault → Unanswered
 of_passing (passing.Form part) = unanswered.Refused (refusals.Form part)
@@ -40,12 +45,9 @@ of_passing passing.Signer = unanswered.Refused refusals.Signer
 of_passing passing.NoMemory = unanswered.NoMemory
 
 -- of the document t, with its report
-abbrev pub of_receiving : Tree → AcceptFault → Unanswered
-of_receiving t (receiving.Refused refusal) = unanswered.Refused (refusals.Receiving refusal (report_on t (refused_view refusal)))
-of_receiving t (receiving.Journal number) = unanswered.Refused (refusals.Journal number)
-of_receiving t receiving.Keeper = unanswered.Refused refusals.Keeper
-of_receiving t receiving.NoMemory = unanswered.NoMemory
+abbrev pub of_receiving : Tree → CallFault Refused → Unanswered
+of_receiving t fault = of_call (λ refusal. refusals.Receiving refusal (report_on t (refused_view refusal))) fault
 
 -- so, or memory was refused
-abbrev pub Undelivers : Tree → AcceptFault → Unanswered → Type 0
+abbrev pub Undelivers : Tree → CallFault Refused → Unanswered → Type 0
 Undelivers t fault why = (why ≡ of_receiving t fault) ⊎ (why ≡ unanswered.NoMemory)

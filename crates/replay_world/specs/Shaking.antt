@@ -1,5 +1,5 @@
 -- Parts of the steps of handshakes.
-use Rattle.std.specs.Prelude.{◌≡◌, ◌⊎◌, ℕ, ℤ, Bool, List, Option, Some, None, option_map, Result, Ok, Err}
+use Rattle.std.specs.Prelude.{◌≡◌, ℕ, ℤ, Bool, List, Option, Some, None, Result, Ok, Err}
 use Rattle.spec_documents.specs.Tree.{Tree}
 use Rattle.spec_messages.specs.Message.{wanted}
 use Rattle.spec_messages.specs.Limits.{full_wire}
@@ -15,7 +15,6 @@ use Rattle.n32c_handshake.specs.declared.replying.Replied.{Replied}
 use Rattle.n32c_handshake.specs.declared.replying.Replied.TheVariants as replied
 use Rattle.n32c_handshake.specs.declared.finishing.Finished.{Finished}
 use Rattle.n32c_handshake.specs.declared.finishing.Finished.TheVariants as finished
-use Rattle.n32_values.specs.View.{tree_of}
 use Rattle.n32_values.specs.declared.memory.NoMemory.{NoMemory}
 use Rattle.policy_documents.specs.declared.same.PolicyMatch.TheVariants as found
 use Rattle.script_lines.specs.declared.hand_refusal.HandRefusal.TheVariants as hand
@@ -55,7 +54,7 @@ of_hand (faults.Journal number) = unanswered.Refused (refusals.Journal number)
 of_hand (faults.Form member) = unanswered.Refused (refusals.Handshake (hand.Form member))
 of_hand faults.NoCommonCapability = unanswered.Refused (refusals.Handshake hand.NoCommonCapability)
 of_hand faults.NoCommonSuite = unanswered.Refused (refusals.Handshake hand.NoCommonSuite)
-of_hand (faults.PolicyDiffers (found.Mapping number) own other) = unanswered.Refused (refusals.Handshake (hand.MappingDiffers number (option_map tree_of own) (option_map tree_of other)))
+of_hand (faults.PolicyDiffers (found.Mapping number) own other) = unanswered.Refused (refusals.Handshake (hand.MappingDiffers number own other))
 of_hand (faults.PolicyDiffers _ own other) = unanswered.Refused (refusals.Handshake hand.TypesDiffer)
 of_hand faults.ContextUsed = unanswered.Refused (refusals.Handshake hand.ContextUsed)
 of_hand faults.NotExpected = unanswered.Refused (refusals.Handshake hand.NotExpected)
@@ -63,10 +62,6 @@ of_hand faults.ContextNotFound = unanswered.Refused (refusals.Handshake hand.Con
 of_hand faults.Limit = unanswered.Refused (refusals.Handshake hand.Limit)
 of_hand faults.Keeper = unanswered.Refused refusals.Keeper
 of_hand faults.NoMemory = unanswered.NoMemory
-
--- so, or memory was refused
-abbrev pub Unshakes : HandFault → Unanswered → Type 0
-Unshakes fault why = (why ≡ of_hand fault) ⊎ (why ≡ unanswered.NoMemory)
 
 -- ---- what is told of a call that is done
 
@@ -107,4 +102,4 @@ abbrev pub Concludes : {X : Type 0} → (X → Answer) → (X → Option Tree) �
 Concludes told sent number old new (Ok x) (Ok text) = (text ≡ answer_text number (told x)) × HasSent old new (sent x)
 Concludes told sent number old new (Ok x) (Err why) = (why ≡ unanswered.NoMemory) × (new ≡ old)
 Concludes told sent number old new (Err fault) (Ok text) = ⊥
-Concludes told sent number old new (Err fault) (Err why) = Unshakes fault why × (new ≡ old)
+Concludes told sent number old new (Err fault) (Err why) = (why ≡ of_hand fault) × (new ≡ old)

@@ -1,12 +1,11 @@
 -- What a step leaves of a world and its keeper, for the steps of lines and for their parts.
-use Rattle.std.specs.Prelude.{◌≡◌, ◌⊎◌, ℕ, ◌≤◌, List, length, Bool, true, false, Option, IfSome, Result, Ok, Err}
+use Rattle.std.specs.Prelude.{◌≡◌, ◌⊎◌, ℕ, List, Bool, true, false, Option, Result, Ok, Err}
 use Rattle.spec_documents.specs.Tree.{Tree}
-use Rattle.spec_records.specs.Records.{Record, record_limit}
+use Rattle.spec_records.specs.Records.{Record}
 use Rattle.n32_outside.specs.Contents.{Stays}
 use Rattle.n32_values.specs.declared.memory.NoMemory.{NoMemory}
-use Rattle.context_store.specs.Stores.{Stored, Holds, IsFirstBad}
-use Rattle.context_store.specs.Changes.{Keeps, Change}
-use Rattle.spec_exchange.specs.Outside.{Choice, Read, BadRecord}
+use Rattle.context_store.specs.Changes.{Keeps, Change, IsChosen}
+use Rattle.spec_exchange.specs.Outside.{Choice}
 use Rattle.spec_script.specs.Steps.{State, Answer, Step, Refuses, with_sent}
 use Rattle.spec_script.specs.Answers.{answer_text}
 use Rattle.spec_script.specs.Output.{has_refusal, is_keeper_refusal}
@@ -20,15 +19,6 @@ use Rattle.script_lines.specs.declared.unanswered.Unanswered.{Unanswered}
 use Rattle.script_lines.specs.declared.unanswered.Unanswered.TheVariants as unanswered
 
 -- ---- over what a step is
-
--- a choice of the keeper, and records, that a step may go by
-pub record IsChosen (held : Option (List (List ℕ))) (old : Stored) (f : Choice) (records : List Record) : Type 0 where
-  -- a fresh store is not read
-  pub fresh : old.fresh ≡ true → (f.reading ≡ Read) × (records ≡ old.records)
-  -- what is read are the records that are held, within their limit, and the first of the held texts that is of no record, or one too many, is named
-  pub read : f.reading ≡ Read → Holds held records
-  pub few : old.fresh ≡ false → f.reading ≡ Read → length records ≤ record_limit
-  pub bad : (number : ℕ) → f.reading ≡ BadRecord number → IfSome held (λ texts. IsFirstBad texts number)
 
 -- by the step over the world's nodes and wire, and over a choice and records that are due
 pub record StepBy (steps : State → Choice → Step) (held : Option (List (List ℕ))) (old : World) (Leaves : List Record → Step → Type 0) : Type 0 where

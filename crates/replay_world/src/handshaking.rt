@@ -1,8 +1,6 @@
 // Handshakes: started, answered, finished, and contexts that end.
-ghost use Rattle.std.specs.Prelude.{◌≡◌, ◌+◌, length, Some, IfOk, option_map};
-ghost use Rattle.n32_values.specs.View.{tree_of};
-ghost use Rattle.policy_documents.specs.declared.same.PolicyMatch.TheVariants as found;
-ghost use Rattle.n32c_handshake.specs.declared.fault.HandFault.TheVariants as faults;
+ghost use Rattle.std.specs.Prelude.{◌≡◌, ◌+◌, ℕ, length, Option, Some, IfOk};
+ghost use Rattle.spec_documents.specs.Tree.{Tree};
 ghost use Rattle.spec_documents.specs.Gives.{Gives};
 ghost use Rattle.spec_script.specs.Events.{AnswerTo, EndBy, FinishBy, StartWith, Terminate};
 ghost use Rattle.spec_script.specs.Steps as spec;
@@ -13,7 +11,7 @@ ghost use Rattle.replay_world.specs.Fitting.{IsFit};
 ghost use Rattle.replay_world.specs.Handling.{Handles};
 ghost use Rattle.replay_world.specs.Outsiders.{unasked};
 ghost use Rattle.replay_world.specs.Shaking as shaking;
-ghost use Rattle.replay_world.specs.Shaking.{Concludes, Says, Unshakes};
+ghost use Rattle.replay_world.specs.Shaking.{Concludes, Says, of_hand};
 ghost use Rattle.replay_world.specs.Worlds.{IsReady, sites_view};
 
 use crate::sites::plmn_of;
@@ -21,7 +19,7 @@ use crate::wire::{document_at, is_full, put_made, put_opening};
 use crate::world::{SiteList, World};
 use block_forms::LimitName;
 use n32_outside::Keeper;
-use n32_values::{Bytes, Doc, DocList, Hex64, NoMemory, Node, PlmnId, Text, Whole};
+use n32_values::{Bytes, Doc, DocList, Hex64, NoMemory, PlmnId, Text, Whole};
 use n32c_handshake::{Finished, HandFault, Offer, Replied};
 use policy_documents::{PolicyMatch, PolicyRead, read_policy};
 use script_lines::{HandRefusal, HandedOffer, Refusal, Unanswered, ended_text, opened_text};
@@ -100,40 +98,15 @@ fn offer_of(alloc: Global, handed: HandedOffer) -> Result<Offer, Unanswered>
 
 // ---- faults
 
-// One side of a difference. A mapping nests a few levels deep.
-fn side_of(side: Option<Node>) -> Result<Option<Doc>, NoMemory>
-    ensures { IfOk result (λ o. o ≡ option_map tree_of side) }
-{
-    let Some(node) = side else {
-        return Ok(None);
-    };
-    match Doc::new(node) {
-        Ok(document) => Ok(Some(document)),
-        Err(_) => Err(NoMemory),
-    }
-}
-
-fn mapping_differs(number: u32, own: Option<Node>, other: Option<Node>) -> Unanswered
-    ensures { Unshakes (faults.PolicyDiffers (found.Mapping number) own other) result }
-{
-    let Ok(own) = side_of(own) else {
-        return Unanswered::NoMemory;
-    };
-    let Ok(other) = side_of(other) else {
-        return Unanswered::NoMemory;
-    };
-    Unanswered::Refused(Refusal::Handshake(HandRefusal::MappingDiffers { number, own, other }))
-}
-
 fn unshaken(fault: HandFault) -> Unanswered
-    ensures { Unshakes fault result }
+    ensures { result ≡ of_hand fault }
 {
     let refusal = match fault {
         HandFault::Journal(number) => return Unanswered::Refused(Refusal::Journal(number)),
         HandFault::Keeper => return Unanswered::Refused(Refusal::Keeper),
         HandFault::NoMemory => return Unanswered::NoMemory,
         HandFault::PolicyDiffers { at, own, other } => match at {
-            PolicyMatch::Mapping(number) => return mapping_differs(number, own, other),
+            PolicyMatch::Mapping(number) => HandRefusal::MappingDiffers { number, own, other },
             _ => HandRefusal::TypesDiffer,
         },
         HandFault::Form(member) => HandRefusal::Form(member),
@@ -149,87 +122,68 @@ fn unshaken(fault: HandFault) -> Unanswered
 
 // ---- what a call comes to
 
-// Answers a document that a call made, and puts it on the wire.
-fn told_document(
+// What a call made, which an event tells, with its document on the wire.
+trait Made {
+    ghost told: { ℕ → Self → spec.Answer };
+
+    ghost sent: { Self → Option Tree };
+
+    // Answers it, and puts its document on the wire.
+    fn put(self, alloc: Global, world: &mut World, number: u64) -> Result<Bytes, NoMemory>
+        requires { world.old.wire_bytes ≡ spec.wire_bytes world.old.wire }
+        ensures { Says number world.old world.new (told (length world.old.wire + 1) self) (sent self) result };
+}
+
+impl Made for Doc {
+    ghost told = { shaking.forwarded };
+
+    ghost sent = { λ t. Some t };
+
+    fn put(self, alloc: Global, world: &mut World, number: u64) -> Result<Bytes, NoMemory> {
+        put_made(alloc, world, number, self)
+    }
+}
+
+impl Made for Replied {
+    ghost told = { shaking.replied_told };
+
+    ghost sent = { shaking.replied_sent };
+
+    fn put(self, alloc: Global, world: &mut World, number: u64) -> Result<Bytes, NoMemory> {
+        match self {
+            Replied::Selected { document } => put_made(alloc, world, number, document),
+            Replied::Opened { document, id } => put_opening(alloc, world, number, document, id),
+        }
+    }
+}
+
+// A finish makes a document only where it asks for parameters.
+impl Made for Finished {
+    ghost told = { shaking.finished_told };
+
+    ghost sent = { shaking.finished_sent };
+
+    fn put(self, alloc: Global, world: &mut World, number: u64) -> Result<Bytes, NoMemory> {
+        match self {
+            Finished::Next { document } => put_made(alloc, world, number, document),
+            Finished::Opened { id } => opened_text(alloc, number, id),
+            Finished::EndedTls => ended_text(alloc, number),
+        }
+    }
+}
+
+// Tells what a call came to.
+fn tell<M: Made>(
     alloc: Global,
     world: &mut World,
     number: u64,
-    made: Result<Doc, HandFault>,
+    made: Result<M, HandFault>,
 ) -> Result<Bytes, Unanswered>
     requires { world.old.wire_bytes ≡ spec.wire_bytes world.old.wire }
-    ensures { Concludes (shaking.forwarded (length world.old.wire + 1)) Some number world.old world.new made result }
+    ensures { Concludes (M.told (length world.old.wire + 1)) M.sent number world.old world.new made result }
 {
     match made {
-        Ok(document) => match put_made(alloc, world, number, document) {
-            Ok(text) => Ok(text),
-            Err(_) => Err(Unanswered::NoMemory),
-        },
-        Err(fault) => Err(unshaken(fault)),
-    }
-}
-
-fn put_replied(
-    alloc: Global,
-    world: &mut World,
-    number: u64,
-    replied: Replied,
-) -> Result<Bytes, NoMemory>
-    requires { world.old.wire_bytes ≡ spec.wire_bytes world.old.wire }
-    ensures { Says number world.old world.new (shaking.replied_told (length world.old.wire + 1) replied) (shaking.replied_sent replied) result }
-{
-    match replied {
-        Replied::Selected { document } => put_made(alloc, world, number, document),
-        Replied::Opened { document, id } => put_opening(alloc, world, number, document, id),
-    }
-}
-
-// The same of a reply.
-fn told_reply(
-    alloc: Global,
-    world: &mut World,
-    number: u64,
-    replied: Result<Replied, HandFault>,
-) -> Result<Bytes, Unanswered>
-    requires { world.old.wire_bytes ≡ spec.wire_bytes world.old.wire }
-    ensures { Concludes (shaking.replied_told (length world.old.wire + 1)) shaking.replied_sent number world.old world.new replied result }
-{
-    match replied {
-        Ok(reply) => match put_replied(alloc, world, number, reply) {
-            Ok(text) => Ok(text),
-            Err(_) => Err(Unanswered::NoMemory),
-        },
-        Err(fault) => Err(unshaken(fault)),
-    }
-}
-
-fn put_finished(
-    alloc: Global,
-    world: &mut World,
-    number: u64,
-    finished: Finished,
-) -> Result<Bytes, NoMemory>
-    requires { world.old.wire_bytes ≡ spec.wire_bytes world.old.wire }
-    ensures { Says number world.old world.new (shaking.finished_told (length world.old.wire + 1) finished) (shaking.finished_sent finished) result }
-{
-    match finished {
-        Finished::Next { document } => put_made(alloc, world, number, document),
-        Finished::Opened { id } => opened_text(alloc, number, id),
-        Finished::EndedTls => ended_text(alloc, number),
-    }
-}
-
-// The same of a finish, which makes a document only where it asks for parameters.
-fn told_finish(
-    alloc: Global,
-    world: &mut World,
-    number: u64,
-    finished: Result<Finished, HandFault>,
-) -> Result<Bytes, Unanswered>
-    requires { world.old.wire_bytes ≡ spec.wire_bytes world.old.wire }
-    ensures { Concludes (shaking.finished_told (length world.old.wire + 1)) shaking.finished_sent number world.old world.new finished result }
-{
-    match finished {
-        Ok(finish) => match put_finished(alloc, world, number, finish) {
+        Ok(made) => match made.put(alloc, world, number) {
             Ok(text) => Ok(text),
             Err(_) => Err(Unanswered::NoMemory),
         },
@@ -268,7 +222,7 @@ pub(crate) fn start<K: Keeper>(
                     peer,
                     offer,
                 );
-                told_document(alloc, world, number, started)
+                tell(alloc, world, number, started)
             }
             Err(why) => Err(why),
         },
@@ -304,7 +258,7 @@ pub(crate) fn answer<K: Keeper>(
                     offer,
                     document,
                 );
-                told_reply(alloc, world, number, replied)
+                tell(alloc, world, number, replied)
             }
             Err(why) => Err(why),
         },
@@ -337,7 +291,7 @@ pub(crate) fn finish<K: Keeper>(
                 plmn,
                 document,
             );
-            told_finish(alloc, world, number, finished)
+            tell(alloc, world, number, finished)
         }
         Err(why) => Err(why),
     }
@@ -360,7 +314,7 @@ pub(crate) fn terminate<K: Keeper>(
     match check_network(&world.sites, full, node) {
         Ok(_plmn) => {
             let made = n32c_handshake::terminate(alloc, &mut world.store, keeper, node, id);
-            told_document(alloc, world, number, made)
+            tell(alloc, world, number, made)
         }
         Err(why) => Err(why),
     }
@@ -383,7 +337,7 @@ pub(crate) fn ended<K: Keeper>(
     match check_document(&world.sites, &world.wire, full, node, wire) {
         Ok((_plmn, document)) => {
             let made = n32c_handshake::ended(alloc, &mut world.store, keeper, node, document);
-            told_document(alloc, world, number, made)
+            tell(alloc, world, number, made)
         }
         Err(why) => Err(why),
     }

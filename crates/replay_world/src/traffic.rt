@@ -23,7 +23,7 @@ use crate::sites::is_known;
 use crate::wire::{document_at, is_full, put_given, put_made};
 use crate::world::World;
 use block_forms::LimitName;
-use context_store::Store;
+use context_store::{CallFault, Store};
 use http_message::{Kind, Message};
 use message_screens::{Screen, ScreenRule};
 use n32_outside::{Keeper, Verifier};
@@ -93,7 +93,7 @@ fn protect_as<K: Keeper>(
     ensures protects { ProtectsAs (outgoing_view outgoing) (K.held keeper.old) (K.held keeper.new) store.old store.new node.now id.value (message_view message.now) result }
     ensures consistent { IsConsistent (K.held keeper.new) store.new }
     ensures later { K.faults keeper.old ≤ K.faults keeper.new }
-    ensures failed { IsErrOf result ProtectFault.Keeper → Rose (K.faults keeper.old) (K.faults keeper.new) }
+    ensures failed { IsErrOf result CallFault.Keeper → Rose (K.faults keeper.old) (K.faults keeper.new) }
 {
     match outgoing {
         Outgoing::Asks => protect(alloc, store, keeper, node, id, message),

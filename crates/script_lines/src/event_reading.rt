@@ -11,7 +11,7 @@ use crate::event_kind::{EventKind, kind_of};
 use crate::event_member::EventMember;
 use crate::event_values::{
     answers_at, first_at, id_at, identity_at, ipx_at, key_pair_at, name_at, network_at, ops_at,
-    suite_at, take, take_operations, value_at, whole_at,
+    reached, suite_at, take, take_operations, value_at, whole_at,
 };
 use crate::hand_reading::{read_answer, read_ended, read_finish, read_start, read_terminate};
 use context_records::KeySet;
@@ -130,8 +130,7 @@ fn read_inject(map: NodeMap) -> Result<Event, EventRead>
 fn read_deliver(alloc: Global, map: &NodeMap) -> Result<Event, EventRead>
     ensures { Gives event_view result (spec.deliver_event map.now) }
 {
-    let node = name_at(alloc, map, EventMember::Node)?;
-    let wire = whole_at(map, EventMember::Wire)?;
+    let (node, wire) = reached(alloc, map)?;
     Ok(Event::Deliver { node, wire })
 }
 

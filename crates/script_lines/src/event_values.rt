@@ -123,6 +123,15 @@ pub(crate) fn whole_at(map: &NodeMap, member: EventMember) -> Result<Whole, Even
     }
 }
 
+// The node that a document on the wire reaches, and the document's number.
+pub(crate) fn reached(alloc: Global, map: &NodeMap) -> Result<(Text, Whole), EventRead>
+    ensures { Gives (λ r. (r.0, r.1)) result (spec.reached map.now) }
+{
+    let node = name_at(alloc, map, EventMember::Node)?;
+    let wire = whole_at(map, EventMember::Wire)?;
+    Ok((node, wire))
+}
+
 // The operations of a patch (RFC 6902).
 pub(crate) fn ops_at(alloc: Global, map: &NodeMap, member: EventMember) -> Result<OpList, EventRead>
     ensures { Gives (λ ops. list_map op_view ops) result (spec.read_at spec.ops_in (member_name member) map.now) }

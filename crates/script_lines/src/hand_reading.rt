@@ -6,7 +6,7 @@ ghost use Rattle.script_lines.specs.EventReading.{Gives};
 use crate::event::Event;
 use crate::event_fault::EventRead;
 use crate::event_member::EventMember;
-use crate::event_values::{id_at, name_at, whole_at};
+use crate::event_values::{id_at, name_at, reached};
 use crate::offer_reading::take_offer;
 use n32_values::NodeMap;
 use std::alloc::Global;
@@ -25,8 +25,7 @@ pub(crate) fn read_answer(alloc: Global, map: NodeMap) -> Result<Event, EventRea
     ensures { Gives event_view result (spec.answer_event map) }
 {
     let mut map = map;
-    let node = name_at(alloc, &map, EventMember::Node)?;
-    let wire = whole_at(&map, EventMember::Wire)?;
+    let (node, wire) = reached(alloc, &map)?;
     let offer = take_offer(alloc, &mut map)?;
     Ok(Event::Answer { node, wire, offer })
 }
@@ -34,8 +33,7 @@ pub(crate) fn read_answer(alloc: Global, map: NodeMap) -> Result<Event, EventRea
 pub(crate) fn read_finish(alloc: Global, map: &NodeMap) -> Result<Event, EventRead>
     ensures { Gives event_view result (spec.finish_event map.now) }
 {
-    let node = name_at(alloc, map, EventMember::Node)?;
-    let wire = whole_at(map, EventMember::Wire)?;
+    let (node, wire) = reached(alloc, map)?;
     Ok(Event::Finish { node, wire })
 }
 
@@ -50,7 +48,6 @@ pub(crate) fn read_terminate(alloc: Global, map: &NodeMap) -> Result<Event, Even
 pub(crate) fn read_ended(alloc: Global, map: &NodeMap) -> Result<Event, EventRead>
     ensures { Gives event_view result (spec.ended_event map.now) }
 {
-    let node = name_at(alloc, map, EventMember::Node)?;
-    let wire = whole_at(map, EventMember::Wire)?;
+    let (node, wire) = reached(alloc, map)?;
     Ok(Event::Ended { node, wire })
 }

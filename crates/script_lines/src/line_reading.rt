@@ -11,7 +11,7 @@ ghost use Rattle.script_lines.specs.Unanswered.{SparesKeeper, told_refusal};
 
 use crate::refusal::Refusal;
 use crate::unanswered::Unanswered;
-use http_message::{Message, MessageRead, read_message};
+use http_message::{Message, MessageRead, read_message, take_message};
 use n32_values::{Doc, DocFault, Node, read_doc};
 use std::alloc::Global;
 
@@ -45,6 +45,21 @@ pub fn read_line_message(alloc: Global, document: &Node) -> Result<Message, Unan
         Ok(message) => Ok(message),
         Err(MessageRead::Member(member)) => Err(Unanswered::Refused(Refusal::Message(member))),
         Err(MessageRead::Depth) => Err(Unanswered::Refused(Refusal::Depth)),
+        Err(MessageRead::NoMemory) => Err(Unanswered::NoMemory),
+    }
+}
+
+/// The message that a line's document is of, as `read_line_message` reads it, with the body moved out of the document.
+pub fn take_line_message(alloc: Global, document: Node) -> Result<Message, Unanswered>
+    ensures gives { Gives told_refusal message_view result (message_in (tree_of document)) }
+    ensures whole { IfOk result (λ m. IsTrue (is_whole (message_view m))) }
+    ensures shallow { IfOk result (λ m. body_depth (message_view m).body ≤ 64) }
+    ensures spares { SparesKeeper result }
+{
+    match take_message(alloc, document) {
+        Ok(message) => Ok(message),
+        Err(MessageRead::Member(member)) => Err(Unanswered::Refused(Refusal::Message(member))),
+        Err(MessageRead::Depth) => Err(Unanswered::Refused(Refusal::Depth)), // over 64
         Err(MessageRead::NoMemory) => Err(Unanswered::NoMemory),
     }
 }

@@ -12,10 +12,9 @@ ghost use Rattle.script_lines.specs.View.{offer_view};
 use crate::event_fault::{EventRead, of_member};
 use crate::event_member::EventMember;
 use crate::offer::HandedOffer;
-use crate::offer_words::{read_capabilities, read_suites};
 use context_records::words::{read_id, read_ipx};
 use n32_values::{Hex64, Node, NodeMap, TextList};
-use n32c_handshake::{CapabilityList, SuiteList};
+use n32c_handshake::{CapabilityList, SuiteList, read_capabilities, read_suites};
 use std::alloc::Global;
 
 #[tactic(auto, using(crate::proofs::Told::told))]
@@ -25,24 +24,21 @@ fn offered_id(map: &NodeMap) -> Result<Hex64, EventRead>
     of_member(read_id(map.get("id")), EventMember::Offer)
 }
 
-#[tactic(auto, using(spec_documents::proofs::FieldLemmas::views))]
+#[tactic(auto, using(crate::proofs::Told::told))]
 fn offered_capabilities(alloc: Global, map: &NodeMap) -> Result<CapabilityList, EventRead>
     ensures { Gives (list_map capability_view) result (spec.offered_at (documents.words_in documents.capability_of) (codes "capabilities") map.now) }
 {
-    match map.get("capabilities") {
-        Some(Node::Items(list)) => Ok(read_capabilities(alloc, list, EventMember::Offer)?),
-        _ => Err(EventRead::Member(EventMember::Offer)),
-    }
+    of_member(
+        read_capabilities(alloc, map.get("capabilities")),
+        EventMember::Offer,
+    )
 }
 
-#[tactic(auto, using(spec_documents::proofs::FieldLemmas::views))]
+#[tactic(auto, using(crate::proofs::Told::told))]
 fn offered_suites(alloc: Global, map: &NodeMap) -> Result<SuiteList, EventRead>
     ensures { Gives (list_map suite_view) result (spec.offered_at (documents.words_in document.suite_of) (codes "suites") map.now) }
 {
-    match map.get("suites") {
-        Some(Node::Items(list)) => Ok(read_suites(alloc, list, EventMember::Offer)?),
-        _ => Err(EventRead::Member(EventMember::Offer)),
-    }
+    of_member(read_suites(alloc, map.get("suites")), EventMember::Offer)
 }
 
 // A value of any form is there.

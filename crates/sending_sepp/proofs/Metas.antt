@@ -7,7 +7,7 @@ use Rattle.spec_messages.specs.Block.{is_meta}
 use Rattle.spec_records.specs.Records.{Context}
 use Rattle.spec_records.specs.RecordDocument.{are_ipx}
 use Rattle.spec_exchange.specs.Calls.{authorized, metadata_for}
-use Rattle.spec_exchange.proofs.UntouchedLemmas.{is_meta-for}
+use Rattle.spec_exchange.proofs.SentLemmas.{is_meta-for}
 
 authorized_fits : (ss : List (List ℕ)) → are_ipx ss ≡ true → (is_identity (authorized ss) || bytes_eq (authorized ss) (codes "null")) ≡ true
 authorized_fits [] h = refl

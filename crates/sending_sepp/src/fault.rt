@@ -1,10 +1,10 @@
-// Why a message isn't sent, and what stops a call: a refusal, a fault of the outside, or want of memory.
+// Why a message isn't sent, and what stops a call.
 ghost use Rattle.std.specs.Prelude.{◌≡◌, IfOk};
 ghost use Rattle.spec_exchange.specs.SendingRefusals as spec;
 ghost use Rattle.sending_sepp.specs.Sending.{refusal_view};
 
 use block_forms::{LimitName, limit_name};
-use context_store::OpenFault;
+use context_store::CallFault;
 use n32_values::{NoMemory, Text};
 use std::alloc::Global;
 
@@ -25,27 +25,11 @@ pub enum SendFault {
     Limit(LimitName),
 }
 
-/// Why the checks of a message come to no document.
-#[derive(Clone, Copy, Debug, PartialEq, Eq, Drop)]
-pub(crate) enum CheckFault {
-    /// A check refuses it.
-    Refused(SendFault),
-    /// Memory was refused.
-    NoMemory,
-}
+// Why the checks of a message come to no document.
+pub(crate) type CheckFault = context_store::CheckFault<SendFault>;
 
 /// Why protecting a message gives no document.
-#[derive(Clone, Copy, Debug, PartialEq, Eq, Drop)]
-pub enum ProtectFault {
-    /// The message is refused.
-    Refused(SendFault),
-    /// The held record of this number is none, or stands past the limit.
-    Journal(u64),
-    /// The keeper failed, in reading the records or in keeping the last.
-    Keeper,
-    /// Memory was refused.
-    NoMemory,
-}
+pub type ProtectFault = CallFault<SendFault>;
 
 impl SendFault {
     /// The number that stands for the refusal in an answer.
@@ -86,57 +70,6 @@ impl SendFault {
         match self {
             SendFault::Limit(limit) => Ok(Some(Text::from_text(alloc, limit_name(*limit))?)),
             _ => Ok(None),
-        }
-    }
-}
-
-impl From<NoMemory> for CheckFault {
-    ghost use Rattle.std.specs.Prelude.{◌≡◌};
-    ghost use Rattle.sending_sepp.specs.declared.fault.CheckFault.TheVariants.{NoMemory as refused_memory};
-
-    ghost from_gives = { λ _ e. e ≡ refused_memory };
-
-    fn from(_refused: NoMemory) -> CheckFault {
-        CheckFault::NoMemory
-    }
-}
-
-impl From<NoMemory> for ProtectFault {
-    ghost use Rattle.std.specs.Prelude.{◌≡◌};
-    ghost use Rattle.sending_sepp.specs.declared.fault.ProtectFault.TheVariants.{NoMemory as refused_memory};
-
-    ghost from_gives = { λ _ e. e ≡ refused_memory };
-
-    fn from(_refused: NoMemory) -> ProtectFault {
-        ProtectFault::NoMemory
-    }
-}
-
-impl From<CheckFault> for ProtectFault {
-    ghost use Rattle.std.specs.Prelude.{◌≡◌};
-    ghost use Rattle.sending_sepp.specs.Sending.{of_check};
-
-    ghost from_gives = { λ fault e. e ≡ of_check fault };
-
-    fn from(fault: CheckFault) -> ProtectFault {
-        match fault {
-            CheckFault::Refused(refused) => ProtectFault::Refused(refused),
-            CheckFault::NoMemory => ProtectFault::NoMemory,
-        }
-    }
-}
-
-impl From<OpenFault> for ProtectFault {
-    ghost use Rattle.std.specs.Prelude.{◌≡◌};
-    ghost use Rattle.sending_sepp.specs.Sending.{of_opening};
-
-    ghost from_gives = { λ fault e. e ≡ of_opening fault };
-
-    fn from(fault: OpenFault) -> ProtectFault {
-        match fault {
-            OpenFault::Journal(number) => ProtectFault::Journal(number),
-            OpenFault::Keeper => ProtectFault::Keeper,
-            OpenFault::NoMemory => ProtectFault::NoMemory,
         }
     }
 }

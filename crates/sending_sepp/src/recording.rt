@@ -10,7 +10,7 @@ use crate::checks::Checked;
 use crate::fault::{ProtectFault, SendFault};
 use block_forms::LimitName;
 use context_records::Record;
-use context_store::{AddFault, Store};
+use context_store::{AddFault, CallFault, Store};
 use n32_outside::Keeper;
 use n32_values::{Doc, Hex64, Text};
 use std::alloc::Global;
@@ -28,10 +28,10 @@ pub(crate) fn record_sent<K: Keeper>(
     requires fresh { store.old.fresh ≡ true }
     requires named { IsTrue (is_node_name node.now) }
     ensures records { Records (K.held keeper.old) (K.held keeper.new) store.old store.new (sealed_view node.now id.value checked) result }
-    ensures room { IsErrOf result ProtectFault.Keeper → length store.old.records < record_limit }
+    ensures room { IsErrOf result CallFault.Keeper → length store.old.records < record_limit }
     ensures consistent { IsConsistent (K.held keeper.new) store.new }
     ensures later { K.faults keeper.old ≤ K.faults keeper.new }
-    ensures failed { IsErrOf result ProtectFault.Keeper → Rose (K.faults keeper.old) (K.faults keeper.new) }
+    ensures failed { IsErrOf result CallFault.Keeper → Rose (K.faults keeper.old) (K.faults keeper.new) }
 {
     let item = Record::Sent {
         node: node.copy(alloc)?,

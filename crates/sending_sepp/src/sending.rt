@@ -12,7 +12,7 @@ use crate::checks::check;
 use crate::fault::ProtectFault;
 use crate::outgoing::Outgoing;
 use crate::recording::record_sent;
-use context_store::Store;
+use context_store::{CallFault, Store};
 use http_message::Message;
 use n32_outside::Keeper;
 use n32_values::{Doc, Hex64, Text};
@@ -34,8 +34,8 @@ fn protect_as<K: Keeper>(
     ensures protects { ProtectsAs (outgoing_view outgoing) (K.held keeper.old) (K.held keeper.new) store.old store.new node.now id.value (message_view message.now) result }
     ensures consistent { IsConsistent (K.held keeper.new) store.new }
     ensures later { K.faults keeper.old ≤ K.faults keeper.new }
-    ensures failed { IsErrOf result ProtectFault.Keeper → Rose (K.faults keeper.old) (K.faults keeper.new) }
-    ensures last { IsErrOf result ProtectFault.Keeper → store.old.fresh ≡ true → IsOk (protected store.old.records node.now id.value (outgoing_view outgoing) (message_view message.now)) }
+    ensures failed { IsErrOf result CallFault.Keeper → Rose (K.faults keeper.old) (K.faults keeper.new) }
+    ensures last { IsErrOf result CallFault.Keeper → store.old.fresh ≡ true → IsOk (protected store.old.records node.now id.value (outgoing_view outgoing) (message_view message.now)) }
 {
     store.refresh(alloc, keeper)?;
     let checked = check(alloc, store, node, id, outgoing, message)?;
@@ -67,8 +67,8 @@ pub fn protect<K: Keeper>(
     ensures protects { Protects (K.held keeper.old) (K.held keeper.new) store.old store.new node.now id.value (message_view request.now) result }
     ensures consistent { IsConsistent (K.held keeper.new) store.new }
     ensures later { K.faults keeper.old ≤ K.faults keeper.new }
-    ensures failed { IsErrOf result ProtectFault.Keeper → Rose (K.faults keeper.old) (K.faults keeper.new) }
-    ensures last { IsErrOf result ProtectFault.Keeper → store.old.fresh ≡ true → IsOk (protected store.old.records node.now id.value Asks (message_view request.now)) }
+    ensures failed { IsErrOf result CallFault.Keeper → Rose (K.faults keeper.old) (K.faults keeper.new) }
+    ensures last { IsErrOf result CallFault.Keeper → store.old.fresh ≡ true → IsOk (protected store.old.records node.now id.value Asks (message_view request.now)) }
 {
     protect_as(alloc, store, keeper, node, id, Outgoing::Asks, request)
 }
@@ -97,8 +97,8 @@ pub fn protect_reply<K: Keeper>(
     ensures protects { ProtectsAs (Replies answers.value) (K.held keeper.old) (K.held keeper.new) store.old store.new node.now id.value (message_view response.now) result }
     ensures consistent { IsConsistent (K.held keeper.new) store.new }
     ensures later { K.faults keeper.old ≤ K.faults keeper.new }
-    ensures failed { IsErrOf result ProtectFault.Keeper → Rose (K.faults keeper.old) (K.faults keeper.new) }
-    ensures last { IsErrOf result ProtectFault.Keeper → store.old.fresh ≡ true → IsOk (protected store.old.records node.now id.value (Replies answers.value) (message_view response.now)) }
+    ensures failed { IsErrOf result CallFault.Keeper → Rose (K.faults keeper.old) (K.faults keeper.new) }
+    ensures last { IsErrOf result CallFault.Keeper → store.old.fresh ≡ true → IsOk (protected store.old.records node.now id.value (Replies answers.value) (message_view response.now)) }
 {
     protect_as(
         alloc,

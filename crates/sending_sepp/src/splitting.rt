@@ -7,7 +7,7 @@ ghost use Rattle.spec_messages.specs.Policy.{values};
 ghost use Rattle.spec_messages.specs.Split.{cleared};
 ghost use Rattle.http_message.specs.Reading.{message_view};
 ghost use Rattle.block_forms.specs.Metadata.{meta_view};
-ghost use Rattle.spec_exchange.specs.Calls.{split_limit};
+ghost use Rattle.spec_messages.specs.Splitting.{split_limit};
 ghost use Rattle.spec_exchange.specs.Chain.{none_of};
 ghost use Rattle.spec_exchange.specs.SendingRefusals as refusals;
 ghost use Rattle.sending_sepp.specs.Sending.{told};

@@ -1,15 +1,11 @@
 -- What an accepted document and a sealed message tell: each check before them held.
-use Rattle.std.proofs.Common.{◌≡◌, ℕ, ◌<◌, Bool, true, false, List, length, Option, Some, None, Result, Ok, Err, refl, ap, subst, ◌∙◌}
+use Rattle.std.proofs.Common.{◌≡◌, ℕ, ◌<◌, Bool, true, false, List, length, Option, Some, None, Result, Ok, Err, refl, ap, subst}
 use Rattle.std.proofs.lemmas.Bool.{leb-false}
-use Rattle.spec_documents.specs.Tree.{Tree}
 use Rattle.spec_messages.specs.Message.{Message, wanted}
 use Rattle.spec_records.specs.Records.{Record, record_limit, delivered_at, next_seq}
-use Rattle.spec_exchange.specs.Chain.{◌>>=◌, unless, none_of, or_refused}
-use Rattle.spec_sealing.specs.Received.{Received, received}
-use Rattle.spec_exchange.specs.ReceivingRefusals.{Form}
-use Rattle.spec_exchange.specs.ReceivingRefusals as receiving
+use Rattle.spec_exchange.specs.Chain.{◌>>=◌, unless, none_of}
 use Rattle.spec_exchange.specs.SendingRefusals as sending
-use Rattle.spec_exchange.specs.FirstFailed.{Delivery, formed, first_failed}
+use Rattle.spec_exchange.specs.Stages.{Delivery}
 use Rattle.spec_exchange.specs.Outside.{Cause, Reading, Read, ReadFails, BadRecord, Putting, Kept, Lost, KeptUntold, puts, behind_reading, or_refusal}
 use Rattle.spec_exchange.specs.Calls.{Sealed, Outgoing, kind_of_outgoing, protected}
 
@@ -41,48 +37,6 @@ pub record IsNew (records : List Record) (node : List ℕ) (d : Delivery) : Type
   pub node_is : d.node ≡ node
   pub never : delivered_at node d.id d.kind d.message records ≡ None
   pub room : length records < record_limit
-
--- a delivery that passed all stages: of this document, new, and with room for its record
-pub record Passes (records : List Record) (node : List ℕ) (t : Tree) (y : Delivery) : Type 0 where
-  pub parts : Received
-  pub form : formed t ≡ Ok parts
-  pub id_is : y.id ≡ parts.context
-  pub new : IsNew records node y
-
-pub passes : (records : List Record) (node : List ℕ) (t : Tree) (y : Delivery) → first_failed records node t ≡ Ok y → Passes records node t y
-passes records node t y e =
-    bind_then _ _ y e λ d e_form e1.
-    bind_then _ _ y e1 λ c e_context e2.
-    bind_then _ _ y e2 λ plain e_opened e3.
-    bind_then _ _ y e3 λ u3 e_first e4.
-    bind_then _ _ y e4 λ m e_rebuilt e5.
-    bind_then _ _ y e5 λ u5 e_sealed e6.
-    bind_then _ _ y e6 λ u6 e_room e7.
-    let P : Delivery → Type 0 = λ y. Passes records node t y in
-    subst P (ok_same {E = receiving.Refusal} _ y e7) (record {
-      parts = d;
-      form = e_form;
-      id_is = refl;
-      new = record {
-        node_is = refl;
-        never = none_ok _ _ u3 e_first;
-        room = leb-false _ _ (unless_ok _ _ u6 e_room);
-      };
-    })
-
-pub first_failed-ok : (records : List Record) (node : List ℕ) (t : Tree) (y : Delivery) → first_failed records node t ≡ Ok y → IsNew records node y
-first_failed-ok records node t y e = let p = passes records node t y e in p.new
-
--- the parts of a document whose form is right
-pub formed-is : (t : Tree) (d : Received) → formed t ≡ Ok d → received t ≡ Ok d
-formed-is t d e =
-    bind_then _ _ d e λ x e_form e1.
-    bind_then _ _ d e1 λ u e_built e2.
-    of_form (received t) d (e_form ∙ ap (λ z. Ok z) (ok_same {E = receiving.Refusal} x d e2))
-  where
-    of_form : (r : Result Received (List ℕ)) (d : Received) → or_refused (λ m. Form m) r ≡ Ok d → r ≡ Ok d
-    of_form (Ok x) d e = cc
-    of_form (Err m) d e = cc
 
 -- ---- sending
 

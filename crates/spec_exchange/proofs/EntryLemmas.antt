@@ -20,7 +20,7 @@ use Rattle.spec_exchange.specs.Chain.{◌>>=◌, unless, or_refused}
 use Rattle.spec_exchange.specs.Rebuilding.{of_block, read_block, unless_fault, filled_with}
 use Rattle.spec_exchange.specs.ReceivingRefusals as receiving
 use Rattle.spec_exchange.specs.ReceivingRefusals.{Reconstruction}
-use Rattle.spec_exchange.specs.FirstFailed.{Rebuilt, rebuilt}
+use Rattle.spec_exchange.specs.Stages.{Rebuilt, rebuilt}
 use Rattle.spec_exchange.specs.EntryRefusals.{EntryRefusal, BadForm, OffRoute, VerifierFailed, OtherTag}
 use Rattle.spec_exchange.specs.AcceptRefusals.{Refusal, OfEntry, Unasked, Screened}
 use Rattle.spec_exchange.specs.EntryChecks.{Claim, Verdict, Signed, NotSigned, Fails, Verifying, verdict_of, by_meaning, Terms, Progress, claim_of, is_signed, not_allowed, entry_applied, entries_from}

@@ -1,10 +1,8 @@
-pub mod AcceptIsolationLemmas
 pub mod AcceptLemmas
-pub mod AcceptRunLemmas
-pub mod AcceptUntouchedLemmas
 pub mod ChainLemmas
 pub mod EntryLemmas
 pub mod HiddenLemmas
 pub mod IsolationLemmas
 pub mod RunLemmas
+pub mod SentLemmas
 pub mod UntouchedLemmas

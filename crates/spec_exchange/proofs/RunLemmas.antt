@@ -9,13 +9,16 @@ use Rattle.std.proofs.lemmas.Slice.Eq.{bytes_eq-Decides}
 use Rattle.spec_messages.specs.Message.{Kind, of_request, of_response}
 use Rattle.spec_records.specs.Records.{same_kind, Record, is_of, own, is_delivery, is_numbered, was_delivered, was_sent, delivered_at}
 use Rattle.spec_records.proofs.RecordLemmas.{own-append, delivered_at-is_some, next_seq-new}
-use Rattle.spec_exchange.specs.ReceivingRefusals as receiving
 use Rattle.spec_exchange.specs.SendingRefusals as sending
-use Rattle.spec_exchange.specs.FirstFailed.{Delivery, first_failed}
-use Rattle.spec_exchange.specs.Outside.{Choice, Cause, with_put}
-use Rattle.spec_exchange.specs.Calls.{Sealed, Outgoing, delivered_record, sent_record, accepted, sends, protected}
-use Rattle.spec_exchange.specs.Runs.{Call, Deliver, Send, Puts, Reply, Told, Made, told, made, reply_of, after, replies, delivers, numbers}
-use Rattle.spec_exchange.proofs.ChainLemmas.{IsNew, IsNext, first_failed-ok, protected-ok, puts-ok}
+use Rattle.spec_exchange.specs.Stages.{Delivery}
+use Rattle.spec_exchange.specs.Outside.{Cause, with_put}
+use Rattle.spec_exchange.specs.Calls.{Sealed, Outgoing, delivered_record, sent_record, accepted, sends, protected, Choices}
+use Rattle.spec_exchange.specs.Runs.{Call, Deliver, Send, Puts, Reply, Told, Made, told, made, reply_of, after, replies, delivers, numbers, Event}
+use Rattle.spec_exchange.proofs.ChainLemmas.{IsNew, IsNext, protected-ok, puts-ok}
+use Rattle.spec_exchange.specs.AcceptRefusals as accepting
+use Rattle.spec_exchange.specs.Screens.{Passes}
+use Rattle.spec_exchange.specs.Accepting.{first_failed}
+use Rattle.spec_exchange.proofs.AcceptLemmas.{accepted-passed}
 
 -- ---- records of one context
 
@@ -53,12 +56,12 @@ held-more p node id records None = omega arith
 held-more p node id records (Some r) = rw own_any-append (bit-or (list_any p (own node id records)) (list_any p (own node id (r ∷ []))))
 
 -- a count in a run that a step's potential bounds
-pub counted : (p : Reply → Bool) (held : List Record → Bool)
-    → ((records : List Record) (f : Choice) (call : Call) → bit (p (reply_of records f call)) + bit (held records) ≤ bit (held (after records f call)))
-    → (records : List Record) (events : List (Choice × Call)) → count_by p (replies records events) + bit (held records) ≤ 1
-counted p held step records [] = omega (arith, bit-below (held records))
-counted p held step records (e ∷ es) =
-    omega (arith, sum_by-cons (λ x. bit (p x)) (reply_of records e.0 e.1) (replies (after records e.0 e.1) es), step records e.0 e.1, counted p held step (after records e.0 e.1) es)
+counted : (passes : Passes) (p : Reply → Bool) (held : List Record → Bool)
+    → ((records : List Record) (f : Choices) (call : Call) → bit (p (reply_of passes records f call)) + bit (held records) ≤ bit (held (after passes records f call)))
+    → (records : List Record) (events : List Event) → count_by p (replies passes records events) + bit (held records) ≤ 1
+counted passes p held step records [] = omega (arith, bit-below (held records))
+counted passes p held step records (e ∷ es) =
+    omega (arith, sum_by-cons (λ x. bit (p x)) (reply_of passes records e.0 e.1) (replies passes (after passes records e.0 e.1) es), step records e.0 e.1, counted passes p held step (after passes records e.0 e.1) es)
 
 -- one more record of a context, where there was none that passes
 pub newly : (p : Record → Bool) (node : List ℕ) (id : ℕ) (records : List Record) (o : Option Record) (r : Record) → list_any p (own node id records) ≡ false → o ≡ Some r → is_of node id r ≡ true → p r ≡ true
@@ -82,35 +85,35 @@ delivered-new node id kind message records at d new e =
     let same_message : d.message ≡ message = eqb-true d.message message k.1 in
     never_delivered node id kind message records (cc (new.never))
 
-pub delivered-step : (node : List ℕ) (id : ℕ) (kind : Kind) (message : ℕ) (records : List Record) (f : Choice) (call : Call)
-    → bit (delivers node id kind message (reply_of records f call)) + bit (was_delivered node id kind message records) ≤ bit (was_delivered node id kind message (after records f call))
-delivered-step node id kind message records f (Puts o) = omega (arith, held-more (is_delivery kind message) node id records o)
-delivered-step node id kind message records f (Send at i o content) = sent (sends f records at i o content).result
+delivered-step : (passes : Passes) (node : List ℕ) (id : ℕ) (kind : Kind) (message : ℕ) (records : List Record) (f : Choices) (call : Call)
+    → bit (delivers node id kind message (reply_of passes records f call)) + bit (was_delivered node id kind message records) ≤ bit (was_delivered node id kind message (after passes records f call))
+delivered-step passes node id kind message records f (Puts o) = omega (arith, held-more (is_delivery kind message) node id records o)
+delivered-step passes node id kind message records f (Send at i o content) = sent (sends f.keeper records at i o content).result
   where
-    sent : (r : Result Sealed (Cause sending.Refusal)) → bit (delivers node id kind message (made r)) + bit (was_delivered node id kind message records) ≤ bit (was_delivered node id kind message (after records f (Send at i o content)))
-    sent (Ok s) = omega (arith, held-more (is_delivery kind message) node id records (sends f records at i o content).put)
-    sent (Err d) = omega (arith, held-more (is_delivery kind message) node id records (sends f records at i o content).put)
-delivered-step node id kind message records f (Deliver at t) = came (accepted f records at t).result refl
+    sent : (r : Result Sealed (Cause sending.Refusal)) → bit (delivers node id kind message (made r)) + bit (was_delivered node id kind message records) ≤ bit (was_delivered node id kind message (after passes records f (Send at i o content)))
+    sent (Ok s) = omega (arith, held-more (is_delivery kind message) node id records (sends f.keeper records at i o content).put)
+    sent (Err d) = omega (arith, held-more (is_delivery kind message) node id records (sends f.keeper records at i o content).put)
+delivered-step passes node id kind message records f (Deliver at t) = came (accepted passes f records at t).result refl
   where
-    one : (d : Delivery) (b : Bool) → (accepted f records at t).result ≡ Ok d → delivers node id kind message (Told d) ≡ b
-        → bit b + bit (was_delivered node id kind message records) ≤ bit (was_delivered node id kind message (after records f (Deliver at t)))
-    one d false e h = omega (arith, held-more (is_delivery kind message) node id records (accepted f records at t).put)
+    one : (d : Delivery) (b : Bool) → (accepted passes f records at t).result ≡ Ok d → delivers node id kind message (Told d) ≡ b
+        → bit b + bit (was_delivered node id kind message records) ≤ bit (was_delivered node id kind message (after passes records f (Deliver at t)))
+    one d false e h = omega (arith, held-more (is_delivery kind message) node id records (accepted passes f records at t).put)
     one d true e h =
-        let p = puts-ok f.reading (first_failed records at t) f.putting delivered_record d e in
+        let p = puts-ok f.keeper.reading (first_failed passes f.verifier records at t) f.keeper.putting delivered_record d e in
         let a = and_parts (bytes_eq d.node node) _ h in
         let b = and_parts (d.id == id) _ a.1 in
-        newly (is_delivery kind message) node id records (accepted f records at t).put (delivered_record d)
-        (delivered-new node id kind message records at d (first_failed-ok records at t d p.0) h)
+        newly (is_delivery kind message) node id records (accepted passes f records at t).put (delivered_record d)
+        (delivered-new node id kind message records at d (accepted-passed passes f.verifier records at t d p.0).new h)
         p.1 (and_from _ _ a.0 b.0) b.1
 
-    came : (r : Result Delivery (Cause receiving.Refusal)) → (accepted f records at t).result ≡ r
-        → bit (delivers node id kind message (told r)) + bit (was_delivered node id kind message records) ≤ bit (was_delivered node id kind message (after records f (Deliver at t)))
-    came (Err d) e = omega (arith, held-more (is_delivery kind message) node id records (accepted f records at t).put)
+    came : (r : Result Delivery (Cause accepting.Refusal)) → (accepted passes f records at t).result ≡ r
+        → bit (delivers node id kind message (told r)) + bit (was_delivered node id kind message records) ≤ bit (was_delivered node id kind message (after passes records f (Deliver at t)))
+    came (Err d) e = omega (arith, held-more (is_delivery kind message) node id records (accepted passes f records at t).put)
     came (Ok d) e = one d (delivers node id kind message (Told d)) e refl
 
-pub delivered-once : (records : List Record) (events : List (Choice × Call)) (node : List ℕ) (id : ℕ) (kind : Kind) (message : ℕ)
-    → count_by (delivers node id kind message) (replies records events) + bit (was_delivered node id kind message records) ≤ 1
-delivered-once records events node id kind message = counted (delivers node id kind message) (was_delivered node id kind message) (delivered-step node id kind message) records events
+pub delivered-once : (passes : Passes) (records : List Record) (events : List Event) (node : List ℕ) (id : ℕ) (kind : Kind) (message : ℕ)
+    → count_by (delivers node id kind message) (replies passes records events) + bit (was_delivered node id kind message records) ≤ 1
+delivered-once passes records events node id kind message = counted passes (delivers node id kind message) (was_delivered node id kind message) (delivered-step passes node id kind message) records events
 
 -- ---- numbers
 
@@ -127,35 +130,35 @@ numbered-new node id kind seq records at i o s next e =
     let same_seq : s.seq ≡ seq = eqb-true s.seq seq k.1 in
     next_seq-new node id kind seq records (cc (next.next, next.node_is, next.id_is, next.kind_is))
 
-pub numbered-step : (node : List ℕ) (id : ℕ) (kind : Kind) (seq : ℕ) (records : List Record) (f : Choice) (call : Call)
-    → bit (numbers node id kind seq (reply_of records f call)) + bit (was_sent node id kind seq records) ≤ bit (was_sent node id kind seq (after records f call))
-numbered-step node id kind seq records f (Puts o) = omega (arith, held-more (is_numbered kind seq) node id records o)
-numbered-step node id kind seq records f (Deliver at t) = came (accepted f records at t).result
+numbered-step : (passes : Passes) (node : List ℕ) (id : ℕ) (kind : Kind) (seq : ℕ) (records : List Record) (f : Choices) (call : Call)
+    → bit (numbers node id kind seq (reply_of passes records f call)) + bit (was_sent node id kind seq records) ≤ bit (was_sent node id kind seq (after passes records f call))
+numbered-step passes node id kind seq records f (Puts o) = omega (arith, held-more (is_numbered kind seq) node id records o)
+numbered-step passes node id kind seq records f (Deliver at t) = came (accepted passes f records at t).result
   where
-    came : (r : Result Delivery (Cause receiving.Refusal)) → bit (numbers node id kind seq (told r)) + bit (was_sent node id kind seq records) ≤ bit (was_sent node id kind seq (after records f (Deliver at t)))
-    came (Ok d) = omega (arith, held-more (is_numbered kind seq) node id records (accepted f records at t).put)
-    came (Err d) = omega (arith, held-more (is_numbered kind seq) node id records (accepted f records at t).put)
-numbered-step node id kind seq records f (Send at i o content) = sent (sends f records at i o content).result refl
+    came : (r : Result Delivery (Cause accepting.Refusal)) → bit (numbers node id kind seq (told r)) + bit (was_sent node id kind seq records) ≤ bit (was_sent node id kind seq (after passes records f (Deliver at t)))
+    came (Ok d) = omega (arith, held-more (is_numbered kind seq) node id records (accepted passes f records at t).put)
+    came (Err d) = omega (arith, held-more (is_numbered kind seq) node id records (accepted passes f records at t).put)
+numbered-step passes node id kind seq records f (Send at i o content) = sent (sends f.keeper records at i o content).result refl
   where
-    one : (s : Sealed) (b : Bool) → (sends f records at i o content).result ≡ Ok s → numbers node id kind seq (Made s) ≡ b
-        → bit b + bit (was_sent node id kind seq records) ≤ bit (was_sent node id kind seq (after records f (Send at i o content)))
-    one s false e h = omega (arith, held-more (is_numbered kind seq) node id records (sends f records at i o content).put)
+    one : (s : Sealed) (b : Bool) → (sends f.keeper records at i o content).result ≡ Ok s → numbers node id kind seq (Made s) ≡ b
+        → bit b + bit (was_sent node id kind seq records) ≤ bit (was_sent node id kind seq (after passes records f (Send at i o content)))
+    one s false e h = omega (arith, held-more (is_numbered kind seq) node id records (sends f.keeper records at i o content).put)
     one s true e h =
-        let p = puts-ok f.reading (protected records at i o content) f.putting sent_record s e in
+        let p = puts-ok f.keeper.reading (protected records at i o content) f.keeper.putting sent_record s e in
         let a = and_parts (bytes_eq s.node node) _ h in
         let b = and_parts (s.id == id) _ a.1 in
-        newly (is_numbered kind seq) node id records (sends f records at i o content).put (sent_record s)
+        newly (is_numbered kind seq) node id records (sends f.keeper records at i o content).put (sent_record s)
         (numbered-new node id kind seq records at i o s (protected-ok records at i o content s p.0) h)
         p.1 (and_from _ _ a.0 b.0) b.1
 
-    sent : (r : Result Sealed (Cause sending.Refusal)) → (sends f records at i o content).result ≡ r
-        → bit (numbers node id kind seq (made r)) + bit (was_sent node id kind seq records) ≤ bit (was_sent node id kind seq (after records f (Send at i o content)))
-    sent (Err d) e = omega (arith, held-more (is_numbered kind seq) node id records (sends f records at i o content).put)
+    sent : (r : Result Sealed (Cause sending.Refusal)) → (sends f.keeper records at i o content).result ≡ r
+        → bit (numbers node id kind seq (made r)) + bit (was_sent node id kind seq records) ≤ bit (was_sent node id kind seq (after passes records f (Send at i o content)))
+    sent (Err d) e = omega (arith, held-more (is_numbered kind seq) node id records (sends f.keeper records at i o content).put)
     sent (Ok s) e = one s (numbers node id kind seq (Made s)) e refl
 
-pub numbered-once : (records : List Record) (events : List (Choice × Call)) (node : List ℕ) (id : ℕ) (kind : Kind) (seq : ℕ)
-    → count_by (numbers node id kind seq) (replies records events) + bit (was_sent node id kind seq records) ≤ 1
-numbered-once records events node id kind seq = counted (numbers node id kind seq) (was_sent node id kind seq) (numbered-step node id kind seq) records events
+pub numbered-once : (passes : Passes) (records : List Record) (events : List Event) (node : List ℕ) (id : ℕ) (kind : Kind) (seq : ℕ)
+    → count_by (numbers node id kind seq) (replies passes records events) + bit (was_sent node id kind seq records) ≤ 1
+numbered-once passes records events node id kind seq = counted passes (numbers node id kind seq) (was_sent node id kind seq) (numbered-step passes node id kind seq) records events
 
 -- what a count and a bit of at most 1 in all say
 pub alone : (n : ℕ) (b : Bool) → n + bit b ≤ 1 → b ≡ true → n ≡ 0

@@ -1,15 +1,16 @@
 -- What stands behind a document that is delivered: the opened message, changed by its entries in order, each verified, authorized, bound and allowed (this project's own).
 use Rattle.std.specs.Prelude.{◌≡◌, ⊤, true, ℕ, suc, List, [], ◌∷◌, ◌++◌, length, map, Some, Ok}
 use Rattle.spec_documents.specs.Tree.{Tree}
+use Rattle.spec_documents.specs.Hole.{fill_all}
 use Rattle.spec_messages.specs.Message.{Message}
-use Rattle.spec_messages.specs.Block.{IsBlock}
+use Rattle.spec_messages.specs.Block.{IsBlock, StandsFor}
 use Rattle.spec_messages.specs.Split.{fill_whole, filled}
-use Rattle.spec_messages.specs.Steps.{ChainStep, Fills}
-use Rattle.spec_messages.specs.Changed.{Entries, ChainApplied}
+use Rattle.spec_messages.specs.Steps.{ChainStep, Fills, InOrder, HoleOf, HasValue, ChainKept, ChainModifiable}
+use Rattle.spec_messages.specs.Changed.{Entries, ChainApplied, patched_along}
 use Rattle.spec_records.specs.Records.{Record}
 use Rattle.spec_sealing.specs.Entries.{SignedEntry, entry_in, entry_ops}
 use Rattle.spec_sealing.specs.Received.{Received, received}
-use Rattle.spec_exchange.specs.FirstFailed.{Delivery, KeyedContext, Rebuilt, keyed_context, key_for, opens, rebuilt, is_sealed}
+use Rattle.spec_exchange.specs.Stages.{Delivery, KeyedContext, Rebuilt, keyed_context, key_for, opens, rebuilt, is_sealed}
 use Rattle.spec_exchange.specs.Route.{in_route}
 use Rattle.spec_exchange.specs.Asked.{MappedBy, asked_for, mapping_by}
 use Rattle.spec_exchange.specs.EntryChecks.{Verifying, Signed, claim_of, Terms}
@@ -79,3 +80,14 @@ chain_of h = record {
 
 abbrev pub fills_of : {passes : Passes} {v : Verifying} {records : List Record} {node : List ℕ} {t : Tree} {y : Delivery} → (h : IsDelivered passes v records node t y) → Fills h.message.holed
 fills_of h = record { values = sealed_values h.plain; full = h.message.content; is = h.is_filled }
+
+-- patching commutes with filling for what is delivered
+pub record Commutes {passes : Passes} {v : Verifying} {records : List Record} {node : List ℕ} {t : Tree} {y : Delivery} (h : IsDelivered passes v records node t y) : Type 0 where
+  -- the operations of the entries make of the filled block the filled block that they leave, which stands for what is delivered
+  pub tree : patched_along (changes h.entries) (fill_all (sealed_values h.plain) h.parts.block) ≡ Ok (fill_all (sealed_values h.plain) h.block)
+  pub stands : InOrder (sealed_values h.plain) → StandsFor (fill_all (sealed_values h.plain) h.block) y.content
+  -- each sealed value stands where its hole stood
+  pub values : (o : HoleOf h.message.holed) → HasValue o (sealed_values h.plain) y.content
+  -- what stands at no changed address is that of the opened message, and each changed address was modifiable
+  pub kept : InOrder (sealed_values h.plain) → ChainKept (chain_of h) h.message.content y.content
+  pub modifiable : ChainModifiable (chain_of h)

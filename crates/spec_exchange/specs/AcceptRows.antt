@@ -1,5 +1,5 @@
--- The documents of worked examples: what B receives of A with entries, and what A receives of B.
-use Rattle.std.specs.Prelude.{ℕ, List, [], ◌∷◌, ◌++◌, true, false, Some, None, Result, codes}
+-- The documents of worked examples: the entries of what B receives of A, and what A receives of B.
+use Rattle.std.specs.Prelude.{ℕ, List, [], ◌∷◌, ◌++◌, Some, None, Result, codes}
 use Rattle.spec_documents.specs.Tree.{Tree}
 use Rattle.spec_messages.specs.Message.{of_request, of_response}
 use Rattle.spec_messages.specs.Split.{cleared}
@@ -9,26 +9,10 @@ use Rattle.spec_sealing.specs.Entries.{SignedEntry}
 use Rattle.spec_sealing.specs.Jwe.{Jwe}
 use Rattle.spec_sealing.specs.Received.{Received}
 use Rattle.spec_exchange.specs.AcceptRefusals.{Refusal}
-use Rattle.spec_exchange.specs.FirstFailed.{Delivery}
-use Rattle.spec_exchange.specs.Rows.{slices_policy, slices_request, keyed_both, received_with, hidden_block}
-use Rattle.spec_exchange.specs.Screens.{Passes}
-use Rattle.spec_exchange.specs.EntryChecks.{Verdict, Verifying, Terms, Progress}
+use Rattle.spec_exchange.specs.Stages.{Delivery}
+use Rattle.spec_exchange.specs.Rows.{slices_policy, slices_request, keyed_both, hidden_block, all_pass, always}
+use Rattle.spec_exchange.specs.EntryChecks.{Signed, Terms, Progress}
 use Rattle.spec_exchange.specs.Accepting.{first_failed_of}
-
--- screens that pass every message, and none
-abbrev pub all_pass : Passes
-all_pass m plmn = true
-
-abbrev pub none_passes : Passes
-none_passes m plmn = false
-
--- verifiers of one verdict
-abbrev pub always : Verdict → Verifying
-always d number claim = d
-
--- request 3 of A at B, with its subscriber hidden and these entries
-abbrev pub told_entries : Passes → Verifying → List Record → Jwe → (block : Tree) → List Tree → Result Delivery Refusal
-told_entries passes v records w block es = first_failed_of passes v records (codes "B") (received_with w block es)
 
 -- ---- an entry
 
@@ -61,3 +45,7 @@ asked_a = keyed_both 0 ++ Sent (codes "A") 161 of_request 3 3 (Some 0) ∷ []
 
 abbrev pub answered_a : List Record
 answered_a = keyed_both 0 ++ Delivered (codes "A") 161 of_response 3 (Some 0) ∷ []
+
+-- response 3 of B
+abbrev pub told_at_a : List Record → Jwe → (block : Tree) → Result Delivery Refusal
+told_at_a rs w block = first_failed_of all_pass (always Signed) rs (codes "A") (answer_of_b w block)

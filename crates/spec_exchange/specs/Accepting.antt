@@ -15,8 +15,8 @@ use Rattle.spec_exchange.specs.Route.{route}
 use Rattle.spec_exchange.specs.Asked.{asked_for, mapping_by}
 use Rattle.spec_exchange.specs.EntryChecks.{Verifying, Terms, entries_applied}
 use Rattle.spec_exchange.specs.Screens.{Passes}
-use Rattle.spec_exchange.specs.FirstFailed as stages
-use Rattle.spec_exchange.specs.FirstFailed.{Delivery, key_for, delivery_at}
+use Rattle.spec_exchange.specs.Stages as stages
+use Rattle.spec_exchange.specs.Stages.{Delivery, key_for, delivery_at}
 
 -- ---- stages
 

@@ -1,4 +1,4 @@
--- Sending and receiving, over the records that are held and the choices of the keeper (after TS 33.501 clauses 13.2.4.4 to 13.2.4.6; the order of checks is this project's own).
+-- Sending and receiving, over the records that are held and the choices of keeper and verifier (after TS 33.501 clauses 13.2.4.4 to 13.2.4.6; the order of checks is this project's own).
 use Rattle.std.specs.Prelude.{ℕ, List, [], ◌∷◌, length, not, nat_le, nat_lt, Option, Result, Ok, codes}
 use Rattle.spec_documents.specs.Tree.{Tree}
 use Rattle.spec_documents.specs.Compact.{compact_text}
@@ -7,7 +7,7 @@ use Rattle.spec_messages.specs.Message.{Message, Kind, of_request, of_response, 
 use Rattle.spec_messages.specs.Policy.{values}
 use Rattle.spec_messages.specs.Split.{cleared}
 use Rattle.spec_messages.specs.Block.{Meta, Block, block_of, block_tree, at_most}
-use Rattle.spec_messages.specs.Fault.{first_of, when}
+use Rattle.spec_messages.specs.Splitting.{split_limit}
 use Rattle.spec_messages.specs.HeadMapping.{mapping_of_head}
 use Rattle.spec_records.specs.Keys.{nonce, send_key}
 use Rattle.spec_records.specs.Records.{OneKey, Context, Record, Sent, Delivered, record_limit, open_context, keys, mapping_delivered, answered, next_seq}
@@ -18,8 +18,11 @@ use Rattle.spec_sealing.specs.Plaintext.{plaintext}
 use Rattle.spec_sealing.specs.Received.{carrier}
 use Rattle.spec_messages.specs.Limits.{Limit, many_headers, many_items, many_values, long_block, many_records}
 use Rattle.spec_exchange.specs.SendingRefusals.{Refusal, Beyond, ContextNotFound, NoKeys, NoRequest, Answered, SeqSpent}
-use Rattle.spec_exchange.specs.ReceivingRefusals as receiving
-use Rattle.spec_exchange.specs.FirstFailed.{Delivery, first_failed}
+use Rattle.spec_exchange.specs.AcceptRefusals as accepting
+use Rattle.spec_exchange.specs.Stages.{Delivery}
+use Rattle.spec_exchange.specs.EntryChecks.{Verifying}
+use Rattle.spec_exchange.specs.Screens.{Passes}
+use Rattle.spec_exchange.specs.Accepting.{first_failed}
 use Rattle.spec_exchange.specs.Outside.{Choice, Outcome, puts, behind_reading, or_refusal}
 
 -- ---- receiving
@@ -27,9 +30,14 @@ use Rattle.spec_exchange.specs.Outside.{Choice, Outcome, puts, behind_reading, o
 abbrev pub delivered_record : Delivery → Record
 delivered_record d = Delivered d.node d.id d.kind d.message d.mapping
 
+-- what the outside comes to in one event
+pub record Choices : Type 0 where
+  pub keeper : Choice
+  pub verifier : Verifying
+
 -- the document is accepted at the node
-abbrev pub accepted : Choice → List Record → (node : List ℕ) → Tree → Outcome receiving.Refusal Delivery
-accepted f records node t = behind_reading f.reading (or_refusal (first_failed records node t) (λ d. puts f.putting (delivered_record d) d))
+abbrev pub accepted : Passes → Choices → List Record → (node : List ℕ) → Tree → Outcome accepting.Refusal Delivery
+accepted passes f records node t = behind_reading f.keeper.reading (or_refusal (first_failed passes f.verifier records node t) (λ d. puts f.keeper.putting (delivered_record d) d))
 
 -- ---- sending
 
@@ -66,14 +74,6 @@ metadata_for x message = record { context = id_text x.peer; message = id_text me
 
 abbrev pub sent_block_of : Context → Option ℕ → ℕ → Message → Block
 sent_block_of x k message m = block_of (cleared x.policy k m) (metadata_for x message)
-
--- the first limit that a block with n values passes
-abbrev pub split_limit : Block → ℕ → Option Limit
-split_limit b n =
-    first_of (when (not (at_most 256 b.headers)) many_headers)
-    (first_of (when (not (at_most 4096 b.payload)) many_items)
-    (first_of (when (nat_lt 1024 n) many_values)
-    (when (nat_lt 4194304 (length (compact_text (block_tree b)))) long_block)))
 
 -- the document that carries the block and the values, sealed under the key and the nonce of the sequence number
 abbrev pub sealed_document : Context → OneKey → ℕ → Block → List Tree → Tree

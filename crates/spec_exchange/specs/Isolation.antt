@@ -1,14 +1,16 @@
 -- What a run tells one context: the replies to its own calls (this project's own).
-use Rattle.std.specs.Prelude.{ℕ, Bool, false, ◌&&◌, ◌==◌, List, [], ◌∷◌, Option, Some, None, Result, Ok, Err, if◌then◌else◌, bytes_eq, filter}
+use Rattle.std.specs.Prelude.{ℕ, List, [], ◌∷◌, Result, Ok, Err, if◌then◌else◌, filter, Option, Some, None, Bool, false, ◌&&◌, ◌==◌, bytes_eq}
 use Rattle.spec_records.specs.Records.{Record, is_of}
+use Rattle.spec_exchange.specs.AcceptRefusals.{Refusal, Receiving}
+use Rattle.spec_exchange.specs.Outside.{Cause, Own, Outside}
+use Rattle.spec_exchange.specs.ReceivingRefusals.{Replay}
+use Rattle.spec_exchange.specs.Screens.{Passes}
+use Rattle.spec_exchange.specs.Runs.{Event, Reply, NotDelivered, reply_of, after, Call, Deliver, Send, Puts}
 use Rattle.spec_sealing.specs.Received.{Received, received}
-use Rattle.spec_exchange.specs.ReceivingRefusals.{Refusal, Replay}
-use Rattle.spec_exchange.specs.Outside.{Choice, Cause, Own, Outside}
-use Rattle.spec_exchange.specs.Runs.{Call, Deliver, Send, Puts, Reply, NotDelivered, reply_of, after}
 
 -- a refusal but for the number of a replayed message's record
 abbrev pub unnumbered : Refusal → Refusal
-unnumbered (Replay number) = Replay 0
+unnumbered (Receiving (Replay number)) = Receiving (Replay 0)
 unnumbered e = e
 
 abbrev pub unnumbered_cause : Cause Refusal → Cause Refusal
@@ -43,12 +45,12 @@ concerns node id (Send n i o content) = bytes_eq n node && (i == id)
 concerns node id (Puts item) = is_record_of node id item
 
 -- the context's own calls
-abbrev pub own_events : List ℕ → ℕ → List (Choice × Call) → List (Choice × Call)
+abbrev pub own_events : List ℕ → ℕ → List Event → List Event
 own_events node id events = filter (λ e. concerns node id e.1) events
 
 -- the replies to them, in a run of all
-abbrev pub own_replies : List ℕ → ℕ → List Record → List (Choice × Call) → List Reply
-own_replies node id records [] = []
-own_replies node id records (e ∷ es) =
-    if concerns node id e.1 then reply_of records e.0 e.1 ∷ own_replies node id (after records e.0 e.1) es
-    else own_replies node id (after records e.0 e.1) es
+abbrev pub own_replies : Passes → List ℕ → ℕ → List Record → List Event → List Reply
+own_replies passes node id records [] = []
+own_replies passes node id records (e ∷ es) =
+    if concerns node id e.1 then reply_of passes records e.0 e.1 ∷ own_replies passes node id (after passes records e.0 e.1) es
+    else own_replies passes node id (after passes records e.0 e.1) es

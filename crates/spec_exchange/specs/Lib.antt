@@ -4,7 +4,7 @@ pub mod Telling
 pub mod RebuildTexts
 pub mod ReceivingRefusals
 pub mod SendingRefusals
-pub mod FirstFailed
+pub mod Stages
 pub mod Outside
 pub mod Calls
 pub mod Rows
@@ -18,9 +18,5 @@ pub mod Screens
 pub mod Asked
 pub mod EntryChecks
 pub mod Accepting
-pub mod AcceptCalls
-pub mod AcceptRuns
-pub mod AcceptIsolation
-pub mod AcceptUntouched
 pub mod AcceptDelivered
 pub mod AcceptRows

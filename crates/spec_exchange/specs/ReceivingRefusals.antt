@@ -1,4 +1,4 @@
--- Why a document isn't delivered, in the order of the checks (this project's own).
+-- Why a document isn't delivered: the document itself, its context, its seal or its message (this project's own).
 use Rattle.std.specs.Prelude.{ℕ, List, codes}
 use Rattle.std.specs.Fmt.{decimal}
 use Rattle.spec_messages.specs.Policy.{Address}
@@ -12,8 +12,6 @@ use Rattle.spec_exchange.specs.Telling.{Telling, bare, detailed}
 pub data Refusal : Type 0 where
   -- the member of this name has not its form
   Form : (member : List ℕ) → Refusal
-  -- what isn't read yet
-  NotBuilt : Refusal
   -- the node has no open context of the document's id
   NoContext : Refusal
   -- the context has no keys
@@ -39,7 +37,6 @@ cipher_name Crit = codes "crit"
 
 abbrev pub telling : Refusal → Telling
 telling (Form member) = detailed 20 (codes "FORM") member
-telling NotBuilt = bare 47 (codes "NOT_BUILT")
 telling NoContext = bare 21 (codes "CONTEXT_NOT_FOUND")
 telling NoReceiveKeys = bare 22 (codes "NO_KEYS")
 telling (Cipher why) = detailed 23 (codes "CIPHER") (cipher_name why)

@@ -1,5 +1,5 @@
 -- The records and messages of worked examples.
-use Rattle.std.specs.Prelude.{◌≡◌, ℕ, List, [], ◌∷◌, ◌++◌, Some, None, Result, codes}
+use Rattle.std.specs.Prelude.{◌≡◌, ℕ, List, [], ◌∷◌, ◌++◌, Some, None, Result, codes, true, false}
 use Rattle.spec_documents.specs.Tree.{Tree}
 use Rattle.spec_messages.specs.Message.{clear, request, Message, of_request, of_response}
 use Rattle.spec_messages.specs.Policy.{Policy, fixed, variable, uri_param, ueid}
@@ -12,8 +12,11 @@ use Rattle.spec_records.specs.RecordRows.{sixteen_bytes}
 use Rattle.spec_sealing.specs.Suites.{ContentKey}
 use Rattle.spec_sealing.specs.Jwe.{Jwe, misfit, opened}
 use Rattle.spec_sealing.specs.Received.{Received}
-use Rattle.spec_exchange.specs.ReceivingRefusals.{Refusal}
-use Rattle.spec_exchange.specs.FirstFailed.{Delivery, KeyedContext, key_for, first_failed_of}
+use Rattle.spec_exchange.specs.AcceptRefusals.{Refusal}
+use Rattle.spec_exchange.specs.Stages.{Delivery, KeyedContext, key_for}
+use Rattle.spec_exchange.specs.Screens.{Passes}
+use Rattle.spec_exchange.specs.EntryChecks.{Verdict, Signed, Verifying}
+use Rattle.spec_exchange.specs.Accepting.{first_failed_of}
 use Rattle.spec_exchange.specs.Calls.{metadata_for}
 
 -- GET of a subscriber's slices, the subscriber's id secret
@@ -74,6 +77,19 @@ after_reply = keyed_both 0 ++ Delivered (codes "B") 177 of_request 3 (Some 0) �
 abbrev pub after_delivery : List Record
 after_delivery = keyed_both 0 ++ Delivered (codes "B") 177 of_request 3 (Some 0) ∷ []
 
+-- ---- screens and verifiers
+
+-- screens that pass every message, and none
+abbrev pub all_pass : Passes
+all_pass m plmn = true
+
+abbrev pub none_passes : Passes
+none_passes m plmn = false
+
+-- verifiers of one verdict
+abbrev pub always : Verdict → Verifying
+always d number claim = d
+
 -- ---- what B receives of A
 
 abbrev pub held_b : KeyedContext
@@ -87,8 +103,12 @@ key_b = key_for of_request held_b
 abbrev pub received_with : Jwe → (block : Tree) → (entries : List Tree) → Received
 received_with w block entries = record { jwe = w; block = block; context = 177; message = 3; authorized = codes "ipx-a"; kind = of_request; entries = entries }
 
+abbrev pub told_by : Passes → List Record → Jwe → (block : Tree) → List Tree → Result Delivery Refusal
+told_by passes rs w block es = first_failed_of passes (always Signed) rs (codes "B") (received_with w block es)
+
+-- without entries, where the screen passes every message
 abbrev pub told_at_b : List Record → Jwe → (block : Tree) → Result Delivery Refusal
-told_at_b rs w block = first_failed_of rs (codes "B") (received_with w block [])
+told_at_b rs w block = told_by all_pass rs w block []
 
 -- the block of the request with the subscriber hidden, and with all in clear
 abbrev pub hidden_block : Tree

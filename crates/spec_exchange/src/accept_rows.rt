@@ -6,7 +6,7 @@ ghost use Rattle.spec_messages.specs.Message.{clear, response, of_request, of_re
 ghost use Rattle.spec_messages.specs.Entry.{hole_moved, not_modifiable};
 ghost use Rattle.spec_messages.specs.Policy.{body_at};
 ghost use Rattle.spec_messages.specs.Rows.{message_three};
-ghost use Rattle.spec_exchange.specs.Rows.{slices_request, keyed_both};
+ghost use Rattle.spec_exchange.specs.Rows.{slices_request, keyed_both, always};
 ghost use Rattle.spec_sealing.specs.Entries.{entry_in};
 ghost use Rattle.spec_exchange.specs.Telling.{bare, detailed};
 ghost use Rattle.spec_exchange.specs.Route.{route, in_route};
@@ -15,7 +15,7 @@ ghost use Rattle.spec_exchange.specs.Asked.{ItsHead, ItsRequest, asked_for};
 ghost use Rattle.spec_exchange.specs.EntryRefusals.{BadForm, OffRoute, VerifierFailed, BadSignature, OtherTag, NotAllowed};
 ghost use Rattle.spec_exchange.specs.EntryChecks.{Signed, NotSigned, Fails, entry_applied};
 ghost use Rattle.spec_exchange.specs.AcceptRefusals.{Unasked, OfEntry, Screened, telling};
-ghost use Rattle.spec_exchange.specs.AcceptRows.{always, terms, signed_by, untouched, passed_on_by, asked_a};
+ghost use Rattle.spec_exchange.specs.AcceptRows.{terms, signed_by, untouched, passed_on_by, asked_a};
 
 /// The route of a document has the authorized intermediary first, where the peer has announced it, and then
 /// the own ones. Entries come in its order, and may leave some out.

@@ -2,32 +2,23 @@
 
 ghost use Rattle.std.specs.Prelude.{◌≡◌, ℕ, List, Bool, None, Ok, Err, IsTrue, true, false};
 ghost use Rattle.spec_documents.specs.Tree.{Tree, is_ordered};
-ghost use Rattle.spec_documents.specs.Hole.{fill_all};
 ghost use Rattle.spec_messages.specs.Message.{Message};
-ghost use Rattle.spec_messages.specs.Block.{StandsFor};
-ghost use Rattle.spec_messages.specs.Changed.{patched_along};
-ghost use Rattle.spec_messages.specs.Steps.{InOrder, HoleOf, HasValue, ChainKept, ChainModifiable};
 ghost use Rattle.spec_records.specs.Records.{Record};
 ghost use Rattle.spec_sealing.specs.Received.{Received, received};
 ghost use Rattle.spec_exchange.specs.Chain.{or_refused};
-ghost use Rattle.spec_exchange.specs.FirstFailed as plain;
-ghost use Rattle.spec_exchange.specs.FirstFailed.{Delivery};
+ghost use Rattle.spec_exchange.specs.Stages as plain;
+ghost use Rattle.spec_exchange.specs.Stages.{Delivery};
 ghost use Rattle.spec_exchange.specs.Screens.{Passes};
 ghost use Rattle.spec_exchange.specs.EntryRefusals.{VerifierFailed};
 ghost use Rattle.spec_exchange.specs.EntryChecks.{Claim, Fails, Verifying, by_meaning};
 ghost use Rattle.spec_exchange.specs.AcceptRefusals.{Receiving, OfEntry};
-ghost use Rattle.spec_exchange.specs.Accepting.{first_failed, sealed_values};
-ghost use Rattle.spec_exchange.specs.AcceptDelivered.{IsDelivered, changes, chain_of};
+ghost use Rattle.spec_exchange.specs.Accepting.{first_failed};
+ghost use Rattle.spec_exchange.specs.AcceptDelivered.{IsDelivered, Commutes};
 
 use spec_messages::blocks::block_has_one_message;
 use spec_messages::commutation::patching_commutes_with_filling;
 use spec_messages::outcomes::entry_outcome_decides;
 use spec_messages::rebuilt::fill_fault_decides;
-
-/// A request without entries is answered by the stages that it has, where the screen passes every message.
-pub fn plain_requests_are_accepted_plainly()
-    ensures { (passes : Passes) (v : Verifying) (records : List Record) (node : List ℕ) (t : Tree) → ((m : Message) (plmn : List ℕ) → passes m plmn ≡ true) → ((d : Received) → received t ≡ Ok d → plain.is_later d ≡ false) → first_failed passes v records node t ≡ or_refused Receiving (plain.first_failed records node t) }
-{}
 
 /// A document is delivered as its opened message, changed by its entries in order: each has the form, is
 /// signed, comes in the route, is bound to the document, and makes changes that are allowed.
@@ -43,11 +34,7 @@ pub fn delivered_document_is_opened_and_changed()
 /// filled block of the delivered message, each value stands where it stood, and what no entry could change
 /// stays.
 pub fn delivered_document_commutes()
-    ensures tree { (passes : Passes) (v : Verifying) (records : List Record) (node : List ℕ) (t : Tree) (y : Delivery) (h : IsDelivered passes v records node t y) → patched_along (changes h.entries) (fill_all (sealed_values h.plain) h.parts.block) ≡ Ok (fill_all (sealed_values h.plain) h.block) }
-    ensures stands { (passes : Passes) (v : Verifying) (records : List Record) (node : List ℕ) (t : Tree) (y : Delivery) (h : IsDelivered passes v records node t y) → InOrder (sealed_values h.plain) → StandsFor (fill_all (sealed_values h.plain) h.block) y.content }
-    ensures values { (passes : Passes) (v : Verifying) (records : List Record) (node : List ℕ) (t : Tree) (y : Delivery) (h : IsDelivered passes v records node t y) (o : HoleOf h.message.holed) → HasValue o (sealed_values h.plain) y.content }
-    ensures kept { (passes : Passes) (v : Verifying) (records : List Record) (node : List ℕ) (t : Tree) (y : Delivery) (h : IsDelivered passes v records node t y) → InOrder (sealed_values h.plain) → ChainKept (chain_of h) h.message.content y.content }
-    ensures modifiable { (passes : Passes) (v : Verifying) (records : List Record) (node : List ℕ) (t : Tree) (y : Delivery) (h : IsDelivered passes v records node t y) → ChainModifiable (chain_of h) }
+    ensures { (passes : Passes) (v : Verifying) (records : List Record) (node : List ℕ) (t : Tree) (y : Delivery) (h : IsDelivered passes v records node t y) → Commutes h }
 {
     patching_commutes_with_filling();
 }

@@ -2,8 +2,6 @@
 #![tactic(auto)]
 
 pub mod accept_rows;
-pub mod accept_runs;
-pub mod accept_untouched;
 pub mod accepting;
 pub mod rows;
 pub mod runs;

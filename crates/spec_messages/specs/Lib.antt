@@ -6,6 +6,7 @@ pub mod AddressText
 pub mod Split
 pub mod Block
 pub mod Limits
+pub mod Splitting
 pub mod Fault
 pub mod Entry
 pub mod Rows

@@ -9,12 +9,11 @@ use Rattle.spec_sealing.specs.Entries.{signed_entry}
 use Rattle.spec_sealing.specs.Passing.{tag_text, with_room, with_entry}
 use Rattle.spec_exchange.specs.Chain.{◌>>=◌, or_refused}
 use Rattle.spec_exchange.specs.AcceptRefusals as accepting
-use Rattle.spec_exchange.specs.AcceptCalls.{accepted}
+use Rattle.spec_exchange.specs.Calls.{accepted, Sealed, delivered_record, sent_record, protected}
 use Rattle.spec_exchange.specs.SendingRefusals as sending
 use Rattle.spec_exchange.specs.Outside.{Choice, Cause, Own, Outside, no_fault, Reading, Read, ReadFails, BadRecord, Putting, Kept, Lost, KeptUntold, Outcome, behind_reading, or_refusal}
 use Rattle.spec_exchange.specs.Outside as outside
-use Rattle.spec_exchange.specs.FirstFailed.{Delivery}
-use Rattle.spec_exchange.specs.Calls.{Sealed, delivered_record, sent_record, protected}
+use Rattle.spec_exchange.specs.Stages.{Delivery}
 use Rattle.spec_handshake.specs.Documents.{Document, Terminates, document_tree}
 use Rattle.spec_handshake.specs.Refusals as handshake
 use Rattle.spec_handshake.specs.Starts.{Offer, Start}

@@ -6,7 +6,7 @@ use Rattle.spec_records.specs.Records.{Record, Opened, Closed}
 use Rattle.spec_exchange.specs.Outside.{Choice, Cause, Own, Outside, Journal, Keeper, Reading, Read, ReadFails, BadRecord, Putting, Kept, Lost, KeptUntold, Outcome, behind_reading, or_refusal}
 use Rattle.spec_exchange.specs.Outside as outside
 use Rattle.spec_exchange.specs.Calls.{Sealed}
-use Rattle.spec_exchange.specs.AcceptRuns
+use Rattle.spec_exchange.specs.Runs as exchange
 use Rattle.spec_handshake.specs.Documents.{Document, document_tree}
 use Rattle.spec_handshake.specs.Refusals as handshake
 use Rattle.spec_handshake.specs.Refusals.{ends_start}
@@ -21,7 +21,7 @@ use Rattle.spec_script.specs.Output.{has_refusal, is_outside_refusal, reply_in, 
 
 -- what is told of a call that is done: no refusal and no reply of another call, and its document with the next number
 pub record IsTold (s : State) (a : Answer) (d : Option Document) : Type 0 where
-  pub other : reply_in a ≡ AcceptRuns.Other
+  pub other : reply_in a ≡ exchange.Other
   pub fine : has_refusal is_outside_refusal a ≡ false
   pub refused : (e : Refusal) → a ≡ Refuses e → ⊥
   pub sealed : (x : Sealed) (k : ℕ) → a ≡ Sends x k → ⊥

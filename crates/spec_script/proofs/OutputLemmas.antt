@@ -10,14 +10,12 @@ use Rattle.spec_records.specs.Records.{Record, was_delivered, was_sent}
 use Rattle.spec_exchange.specs.AcceptRefusals as accepting
 use Rattle.spec_exchange.specs.SendingRefusals as sending
 use Rattle.spec_exchange.specs.Outside.{Outcome, Cause, Putting, Kept, Lost, KeptUntold, with_put}
-use Rattle.spec_exchange.specs.FirstFailed.{Delivery}
-use Rattle.spec_exchange.specs.Calls.{Sealed, sends}
+use Rattle.spec_exchange.specs.Stages.{Delivery}
+use Rattle.spec_exchange.specs.Calls.{Sealed, sends, accepted}
 use Rattle.spec_exchange.specs.Screens.{Passes}
-use Rattle.spec_exchange.specs.AcceptCalls.{accepted}
 use Rattle.spec_exchange.specs.Runs.{Call, Deliver, Send, Puts}
-use Rattle.spec_exchange.specs.AcceptRuns
-use Rattle.spec_exchange.proofs.RunLemmas.{bit}
-use Rattle.spec_exchange.proofs.AcceptRunLemmas.{accepted-once, sent-once}
+use Rattle.spec_exchange.specs.Runs as exchange
+use Rattle.spec_exchange.proofs.RunLemmas.{bit, delivered-once, numbered-once}
 use Rattle.spec_documents.specs.Lines.{is_blank, Outputs}
 use Rattle.spec_handshake.specs.Documents.{Document}
 use Rattle.spec_handshake.specs.Refusals as handshake
@@ -41,41 +39,41 @@ by_line false h blank spoken = spoken refl h
 -- ---- a run of a script is one of calls
 
 -- a test of replies that no refusal passes
-record OfReplies (p : AcceptRuns.Reply → Bool) : Type 0 where
-  undelivered : (e : Cause accepting.Refusal) → p (AcceptRuns.NotDelivered e) ≡ p AcceptRuns.Other
-  unsent : (e : Cause sending.Refusal) → p (AcceptRuns.NotSent e) ≡ p AcceptRuns.Other
+record OfReplies (p : exchange.Reply → Bool) : Type 0 where
+  undelivered : (e : Cause accepting.Refusal) → p (exchange.NotDelivered e) ≡ p exchange.Other
+  unsent : (e : Cause sending.Refusal) → p (exchange.NotSent e) ≡ p exchange.Other
 
 -- a call whose reply passes where the answer does, and which puts the same record
-record IsCall (p : AcceptRuns.Reply → Bool) (passes : Passes) (s : State) (f : Choices) (r : Step) : Type 0 where
+record IsCall (p : exchange.Reply → Bool) (passes : Passes) (s : State) (f : Choices) (r : Step) : Type 0 where
   call : Call
-  put : r.put ≡ AcceptRuns.put_of passes s.records (of_accepting f) call
-  reply : p (reply_in r.answer) ≡ p (AcceptRuns.reply_of passes s.records (of_accepting f) call)
+  put : r.put ≡ exchange.put_of passes s.records (of_accepting f) call
+  reply : p (reply_in r.answer) ≡ p (exchange.reply_of passes s.records (of_accepting f) call)
 
-other_call : (p : AcceptRuns.Reply → Bool) (passes : Passes) (s : State) (f : Choices) (r : Step) → p (reply_in r.answer) ≡ p AcceptRuns.Other → IsCall p passes s f r
+other_call : (p : exchange.Reply → Bool) (passes : Passes) (s : State) (f : Choices) (r : Step) → p (reply_in r.answer) ≡ p exchange.Other → IsCall p passes s f r
 other_call p passes s f r e = record { call = Puts r.put; put = refl; reply = e }
 
-put_other : (p : AcceptRuns.Reply → Bool) (s : State) (k : Putting) (name : List ℕ) (r : Record) → p (reply_in (puts s k name r).answer) ≡ p AcceptRuns.Other
+put_other : (p : exchange.Reply → Bool) (s : State) (k : Putting) (name : List ℕ) (r : Record) → p (reply_in (puts s k name r).answer) ≡ p exchange.Other
 put_other p s Kept name r = refl
 put_other p s Lost name r = refl
 put_other p s KeptUntold name r = refl
 
-came_told : (p : AcceptRuns.Reply → Bool) → OfReplies p → (t : Tree) (r : Result Delivery (Cause accepting.Refusal)) → p (reply_in (delivery_answer t r)) ≡ p (AcceptRuns.told r)
+came_told : (p : exchange.Reply → Bool) → OfReplies p → (t : Tree) (r : Result Delivery (Cause accepting.Refusal)) → p (reply_in (delivery_answer t r)) ≡ p (exchange.told r)
 came_told p h t (Ok d) = refl
 came_told p h t (Err e) = sym (h.undelivered e)
 
-sealed_made : (p : AcceptRuns.Reply → Bool) → OfReplies p → (n : ℕ) (r : Result Sealed (Cause sending.Refusal)) → p (reply_in (sealed_answer n r)) ≡ p (AcceptRuns.made r)
+sealed_made : (p : exchange.Reply → Bool) → OfReplies p → (n : ℕ) (r : Result Sealed (Cause sending.Refusal)) → p (reply_in (sealed_answer n r)) ≡ p (exchange.made r)
 sealed_made p h n (Ok x) = refl
 sealed_made p h n (Err e) = sym (h.unsent e)
 
-shaken_other : {T : Type 0} (p : AcceptRuns.Reply → Bool) (s : State) (told : T → Answer) (made : T → Option Document) (starts : List Start) (o : Outcome handshake.Refusal T)
-    → ((x : T) → IsTold s (told x) (made x)) → p (reply_in (shakes s told made starts o).answer) ≡ p AcceptRuns.Other
+shaken_other : {T : Type 0} (p : exchange.Reply → Bool) (s : State) (told : T → Answer) (made : T → Option Document) (starts : List Start) (o : Outcome handshake.Refusal T)
+    → ((x : T) → IsTold s (told x) (made x)) → p (reply_in (shakes s told made starts o).answer) ≡ p exchange.Other
 shaken_other {T} p s told made starts o is = by_result o.result
   where
-    by_result : (r : Result T (Cause handshake.Refusal)) → p (reply_in (call_answer told r)) ≡ p AcceptRuns.Other
+    by_result : (r : Result T (Cause handshake.Refusal)) → p (reply_in (call_answer told r)) ≡ p exchange.Other
     by_result (Ok x) = ap p (is x).other
     by_result (Err e) = refl
 
-line_call : (p : AcceptRuns.Reply → Bool) → OfReplies p → (passes : Passes) (s : State) (f : Choices) (line : List ℕ) → IsCall p passes s f (line_step passes s f line)
+line_call : (p : exchange.Reply → Bool) → OfReplies p → (passes : Passes) (s : State) (f : Choices) (line : List ℕ) → IsCall p passes s f (line_step passes s f line)
 line_call p h passes s f line = line_covered (λ r. IsCall p passes s f r) passes s f (record {
   refused = λ d. other_call p passes s f _ refl;
   restarted = λ node. other_call p passes s f _ refl;
@@ -89,21 +87,21 @@ line_call p h passes s f line = line_covered (λ r. IsCall p passes s f r) passe
   shaken = λ told made starts o is call. other_call p passes s f _ (shaken_other p s told made starts o is);
 }) (line_event line)
 
-abbrev passing : (AcceptRuns.Reply → Bool) → List Numbered → ℕ
+abbrev passing : (exchange.Reply → Bool) → List Numbered → ℕ
 passing p answers = count_by (λ (x : Numbered). p (reply_in x.1)) answers
 
 -- calls of which as many replies pass as answers do
-record IsRun (p : AcceptRuns.Reply → Bool) (passes : Passes) (records : List Record) (answers : List Numbered) : Type 0 where
-  events : List AcceptRuns.Event
-  count : passing p answers ≡ count_by p (AcceptRuns.replies passes records events)
+record IsRun (p : exchange.Reply → Bool) (passes : Passes) (records : List Record) (answers : List Numbered) : Type 0 where
+  events : List exchange.Event
+  count : passing p answers ≡ count_by p (exchange.replies passes records events)
 
-one_more : (p : AcceptRuns.Reply → Bool) (passes : Passes) (s mid : State) (f : Choices) (r : Step) (n : ℕ) (a : Answer) (rest : List Numbered)
+one_more : (p : exchange.Reply → Bool) (passes : Passes) (s mid : State) (f : Choices) (r : Step) (n : ℕ) (a : Answer) (rest : List Numbered)
     → IsCall p passes s f r → a ≡ r.answer → mid ≡ after s r → IsRun p passes mid.records rest → IsRun p passes s.records ((n, a) ∷ rest)
 one_more p passes s mid f r n a rest c told left run =
-    let held : mid.records ≡ AcceptRuns.after passes s.records (of_accepting f) c.call = ap (λ (z : State). z.records) left ∙ ap (with_put s.records) c.put in
-    let same : bit (p (reply_in a)) ≡ bit (p (AcceptRuns.reply_of passes s.records (of_accepting f) c.call)) = ap bit (ap (λ (z : Answer). p (reply_in z)) told ∙ c.reply) in
-    let later : count_by p (AcceptRuns.replies passes mid.records run.events) ≡ count_by p (AcceptRuns.replies passes (AcceptRuns.after passes s.records (of_accepting f) c.call) run.events) =
-    ap (λ (z : List Record). count_by p (AcceptRuns.replies passes z run.events)) held in
+    let held : mid.records ≡ exchange.after passes s.records (of_accepting f) c.call = ap (λ (z : State). z.records) left ∙ ap (with_put s.records) c.put in
+    let same : bit (p (reply_in a)) ≡ bit (p (exchange.reply_of passes s.records (of_accepting f) c.call)) = ap bit (ap (λ (z : Answer). p (reply_in z)) told ∙ c.reply) in
+    let later : count_by p (exchange.replies passes mid.records run.events) ≡ count_by p (exchange.replies passes (exchange.after passes s.records (of_accepting f) c.call) run.events) =
+    ap (λ (z : List Record). count_by p (exchange.replies passes z run.events)) held in
     record {
       events = (of_accepting f, c.call) ∷ run.events;
       count = omega (
@@ -112,11 +110,11 @@ one_more p passes s mid f r n a rest c told left run =
         same,
         run.count,
         later,
-        sum_by-cons (λ x. bit (p x)) (AcceptRuns.reply_of passes s.records (of_accepting f) c.call) (AcceptRuns.replies passes (AcceptRuns.after passes s.records (of_accepting f) c.call) run.events),
+        sum_by-cons (λ x. bit (p x)) (exchange.reply_of passes s.records (of_accepting f) c.call) (exchange.replies passes (exchange.after passes s.records (of_accepting f) c.call) run.events),
       );
     }
 
-run_of : (m : Meanings) (p : AcceptRuns.Reply → Bool) → OfReplies p → (s : State) (n : ℕ) (lines : List (List ℕ)) (answers : List Numbered) (last : State) → Answered m s n lines answers last → IsRun p m.passes s.records answers
+run_of : (m : Meanings) (p : exchange.Reply → Bool) → OfReplies p → (s : State) (n : ℕ) (lines : List (List ℕ)) (answers : List Numbered) (last : State) → Answered m s n lines answers last → IsRun p m.passes s.records answers
 run_of m p h s n [] answers last e = rw (e.0) (record { events = []; count = refl })
 run_of m p h s n (line ∷ lines) answers last e =
     by_line (is_blank line) e
@@ -133,14 +131,14 @@ run_of m p h s n (line ∷ lines) answers last e =
 pub run-delivered : (m : Meanings) (s : State) (n : ℕ) (lines : List (List ℕ)) (answers : List Numbered) (last : State) → Answered m s n lines answers last → (node : List ℕ) (id : ℕ) (kind : Kind) (message : ℕ)
     → count_by (output.delivers node id kind message) answers + bit (was_delivered node id kind message s.records) ≤ 1
 run-delivered m s n lines answers last h node id kind message =
-    let w = run_of m (AcceptRuns.delivers node id kind message) (record { undelivered = λ e. refl; unsent = λ e. refl }) s n lines answers last h in
-    omega (arith, w.count, accepted-once m.passes s.records w.events node id kind message)
+    let w = run_of m (exchange.delivers node id kind message) (record { undelivered = λ e. refl; unsent = λ e. refl }) s n lines answers last h in
+    omega (arith, w.count, delivered-once m.passes s.records w.events node id kind message)
 
 pub run-numbered : (m : Meanings) (s : State) (n : ℕ) (lines : List (List ℕ)) (answers : List Numbered) (last : State) → Answered m s n lines answers last → (node : List ℕ) (id : ℕ) (kind : Kind) (seq : ℕ)
     → count_by (output.numbers node id kind seq) answers + bit (was_sent node id kind seq s.records) ≤ 1
 run-numbered m s n lines answers last h node id kind seq =
-    let w = run_of m (AcceptRuns.numbers node id kind seq) (record { undelivered = λ e. refl; unsent = λ e. refl }) s n lines answers last h in
-    omega (arith, w.count, sent-once m.passes s.records w.events node id kind seq)
+    let w = run_of m (exchange.numbers node id kind seq) (record { undelivered = λ e. refl; unsent = λ e. refl }) s n lines answers last h in
+    omega (arith, w.count, numbered-once m.passes s.records w.events node id kind seq)
 
 -- ---- records grow
 

@@ -3,13 +3,11 @@ use Rattle.std.proofs.Common.{◌≡◌, ℕ, List, Option, Some, Result, Ok, Er
 use Rattle.spec_documents.specs.Tree.{Tree}
 use Rattle.spec_records.specs.Records.{Record}
 use Rattle.spec_exchange.specs.Outside.{Cause, Own, Outside, Journal, Keeper, Putting, Kept, Lost, KeptUntold, Outcome}
-use Rattle.spec_exchange.specs.Calls.{sends}
+use Rattle.spec_exchange.specs.Calls.{sends, accepted, Sealed}
 use Rattle.spec_exchange.specs.Screens.{Passes}
-use Rattle.spec_exchange.specs.AcceptCalls.{accepted}
 use Rattle.spec_exchange.specs.AcceptRefusals as accepting
 use Rattle.spec_exchange.specs.SendingRefusals as sending
-use Rattle.spec_exchange.specs.FirstFailed.{Delivery}
-use Rattle.spec_exchange.specs.Calls.{Sealed}
+use Rattle.spec_exchange.specs.Stages.{Delivery}
 use Rattle.spec_handshake.specs.Documents.{Document}
 use Rattle.spec_handshake.specs.Refusals as handshake
 use Rattle.spec_handshake.specs.Starts.{Start}

@@ -6,11 +6,10 @@ use Rattle.spec_records.specs.Records.{Record}
 use Rattle.spec_exchange.specs.AcceptRefusals as accepting
 use Rattle.spec_exchange.specs.SendingRefusals as sending
 use Rattle.spec_exchange.specs.Outside.{Cause, Own, Outside, Journal, Keeper, Putting, Kept, Lost, KeptUntold}
-use Rattle.spec_exchange.specs.FirstFailed.{Delivery}
-use Rattle.spec_exchange.specs.Calls.{Sealed, delivered_record, sent_record, sends, protected}
+use Rattle.spec_exchange.specs.Stages.{Delivery}
+use Rattle.spec_exchange.specs.Calls.{Sealed, delivered_record, sent_record, sends, protected, accepted}
 use Rattle.spec_exchange.specs.Screens.{Passes}
 use Rattle.spec_exchange.specs.Accepting.{first_failed}
-use Rattle.spec_exchange.specs.AcceptCalls.{accepted}
 use Rattle.spec_handshake.specs.Documents.{Document}
 use Rattle.spec_handshake.specs.Refusals as handshake
 use Rattle.spec_handshake.specs.Starts.{Start}

@@ -4,9 +4,8 @@ use Rattle.spec_documents.specs.Tree.{Tree}
 use Rattle.spec_messages.specs.Message.{Message}
 use Rattle.spec_records.specs.Records.{KeySet, Context, Record}
 use Rattle.spec_exchange.specs.Chain.{◌>>=◌}
-use Rattle.spec_exchange.specs.Calls.{Outgoing, sends}
+use Rattle.spec_exchange.specs.Calls.{Outgoing, sends, accepted}
 use Rattle.spec_exchange.specs.Screens.{Passes}
-use Rattle.spec_exchange.specs.AcceptCalls.{accepted}
 use Rattle.spec_exchange.specs.Outside.{Outcome}
 use Rattle.spec_handshake.specs.Documents.{Document}
 use Rattle.spec_handshake.specs.Refusals as handshake

@@ -11,7 +11,7 @@ use Rattle.spec_exchange.specs.EntryRefusals.{EntryRefusal}
 use Rattle.spec_exchange.specs.AcceptRefusals.{Refusal, OfEntry}
 use Rattle.spec_exchange.specs.EntryChecks.{Claim, Verdict, Fails, verdict_of, is_entry, by_meaning, is_signed, Terms, Progress, claim_of, bound_entry, entry_applied, entries_from, entries_applied}
 use Rattle.spec_exchange.specs.Screens.{Passes}
-use Rattle.spec_exchange.specs.FirstFailed.{Delivery, KeyedContext, Rebuilt, has_room, delivery_at}
+use Rattle.spec_exchange.specs.Stages.{Delivery, KeyedContext, Rebuilt, has_room, delivery_at}
 use Rattle.spec_exchange.specs.Asked.{MappedBy, mapping_by}
 use Rattle.spec_exchange.specs.Accepting.{stage, sealed_values, terms_of, is_passed, first_failed}
 use Rattle.spec_script.specs.Output.{is_verifier_failure}

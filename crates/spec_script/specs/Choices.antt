@@ -4,7 +4,7 @@ use Rattle.spec_sealing.specs.Jws.{Algorithm}
 use Rattle.spec_exchange.specs.Outside.{Choice, no_fault}
 use Rattle.spec_exchange.specs.EntryChecks.{Claim, Verifying, by_meaning}
 use Rattle.spec_exchange.specs.Screens.{Passes}
-use Rattle.spec_exchange.specs.AcceptCalls as accepting
+use Rattle.spec_exchange.specs.Calls as accepting
 
 -- what signs: by which algorithm, and the signature for an identity of an input
 pub record Signer : Type 0 where

@@ -111,6 +111,13 @@ ops_in (Some t) = result_ok (ops_of t)
 
 -- ---- the event of an object, or the first member, in this order, that is missing or has not its form
 
+-- the node that a document on the wire reaches, and the document's number
+abbrev pub reached : Members → Result (List ℕ × ℤ) (List ℕ)
+reached ms =
+    read_at node_in (codes "node") ms >>= λ node.
+    read_at whole_in (codes "wire") ms >>= λ wire.
+    Ok (node, wire)
+
 abbrev pub node_event : Members → Result Event (List ℕ)
 node_event ms =
     read_at node_in (codes "node") ms >>= λ node.
@@ -172,10 +179,7 @@ inject_event ms =
     Ok (Inject document)
 
 abbrev pub deliver_event : Members → Result Event (List ℕ)
-deliver_event ms =
-    read_at node_in (codes "node") ms >>= λ node.
-    read_at whole_in (codes "wire") ms >>= λ wire.
-    Ok (Deliver node wire)
+deliver_event ms = reached ms >>= λ r. Ok (Deliver r.0 r.1)
 
 abbrev pub restart_event : Members → Result Event (List ℕ)
 restart_event ms =
@@ -191,16 +195,12 @@ start_event ms =
 
 abbrev pub answer_event : Members → Result Event (List ℕ)
 answer_event ms =
-    read_at node_in (codes "node") ms >>= λ node.
-    read_at whole_in (codes "wire") ms >>= λ wire.
+    reached ms >>= λ r.
     offer_in ms >>= λ offer.
-    Ok (AnswerTo node wire offer)
+    Ok (AnswerTo r.0 r.1 offer)
 
 abbrev pub finish_event : Members → Result Event (List ℕ)
-finish_event ms =
-    read_at node_in (codes "node") ms >>= λ node.
-    read_at whole_in (codes "wire") ms >>= λ wire.
-    Ok (FinishBy node wire)
+finish_event ms = reached ms >>= λ r. Ok (FinishBy r.0 r.1)
 
 abbrev pub terminate_event : Members → Result Event (List ℕ)
 terminate_event ms =
@@ -209,10 +209,7 @@ terminate_event ms =
     Ok (Terminate node id)
 
 abbrev pub ended_event : Members → Result Event (List ℕ)
-ended_event ms =
-    read_at node_in (codes "node") ms >>= λ node.
-    read_at whole_in (codes "wire") ms >>= λ wire.
-    Ok (EndBy node wire)
+ended_event ms = reached ms >>= λ r. Ok (EndBy r.0 r.1)
 
 -- by the text of `do`
 abbrev pub event_named : List ℕ → Members → Result Event (List ℕ)

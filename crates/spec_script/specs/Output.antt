@@ -7,7 +7,7 @@ use Rattle.spec_script.specs.Choices.{Choices, Meanings, IsBy}
 use Rattle.spec_exchange.specs.EntryRefusals.{VerifierFailed}
 use Rattle.spec_exchange.specs.AcceptRefusals as accepting
 use Rattle.spec_exchange.specs.AcceptRefusals.{OfEntry}
-use Rattle.spec_exchange.specs.AcceptRuns
+use Rattle.spec_exchange.specs.Runs as exchange
 use Rattle.spec_documents.specs.Lines.{lines_of, is_blank}
 use Rattle.spec_handshake.specs.Refusals.{ends_start}
 use Rattle.spec_handshake.specs.Starts.{Start, without_first}
@@ -55,18 +55,18 @@ pub record GivesAnswer (m : Meanings) (s : State) (n : ℕ) (line text : List �
 -- ---- what an answer is
 
 -- as the reply of a call
-abbrev pub reply_in : Answer → AcceptRuns.Reply
-reply_in (Sends x number) = AcceptRuns.Made x
-reply_in (Delivers d) = AcceptRuns.Told d
-reply_in _ = AcceptRuns.Other
+abbrev pub reply_in : Answer → exchange.Reply
+reply_in (Sends x number) = exchange.Made x
+reply_in (Delivers d) = exchange.Told d
+reply_in _ = exchange.Other
 
 -- the answer delivers this message
 abbrev pub delivers : List ℕ → ℕ → Kind → ℕ → Numbered → Bool
-delivers node id kind message x = AcceptRuns.delivers node id kind message (reply_in x.1)
+delivers node id kind message x = exchange.delivers node id kind message (reply_in x.1)
 
 -- the answer is a document of this sequence number
 abbrev pub numbers : List ℕ → ℕ → Kind → ℕ → Numbered → Bool
-numbers node id kind seq x = AcceptRuns.numbers node id kind seq (reply_in x.1)
+numbers node id kind seq x = exchange.numbers node id kind seq (reply_in x.1)
 
 abbrev pub has_refusal : (Refusal → Bool) → Answer → Bool
 has_refusal p (Refuses e) = p e

@@ -11,10 +11,9 @@ use Rattle.spec_messages.specs.Limits.{full_wire, many_records}
 use Rattle.spec_exchange.specs.AcceptRefusals as accepting
 use Rattle.spec_exchange.specs.SendingRefusals as sending
 use Rattle.spec_exchange.specs.Outside.{Choice, Cause, Keeper, Journal, Reading, Read, ReadFails, BadRecord, Putting, Kept, Lost, KeptUntold, Outcome, with_put}
-use Rattle.spec_exchange.specs.FirstFailed.{Delivery}
-use Rattle.spec_exchange.specs.Calls.{Sealed, Outgoing, Asks, Replies, sends}
+use Rattle.spec_exchange.specs.Stages.{Delivery}
+use Rattle.spec_exchange.specs.Calls.{Sealed, Outgoing, Asks, Replies, sends, accepted}
 use Rattle.spec_exchange.specs.Screens.{Passes}
-use Rattle.spec_exchange.specs.AcceptCalls.{accepted}
 use Rattle.spec_handshake.specs.Documents.{Document, document_tree}
 use Rattle.spec_handshake.specs.Refusals as handshake
 use Rattle.spec_handshake.specs.Starts.{Offer, Start, without_node}

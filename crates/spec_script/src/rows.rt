@@ -21,7 +21,7 @@ ghost use Rattle.spec_exchange.specs.ReceivingRefusals.{Form, Integrity, Replay,
 ghost use Rattle.spec_exchange.specs.AcceptRefusals.{Receiving, OfEntry, Screened};
 ghost use Rattle.spec_exchange.specs.EntryRefusals as entry;
 ghost use Rattle.spec_exchange.specs.EntryChecks.{by_meaning};
-ghost use Rattle.spec_exchange.specs.FirstFailed.{Delivery};
+ghost use Rattle.spec_exchange.specs.Stages.{Delivery};
 ghost use Rattle.spec_exchange.specs.Calls.{delivered_record};
 ghost use Rattle.spec_exchange.specs.Accepting.{first_failed};
 ghost use Rattle.spec_exchange.specs.SendingRefusals as sending;

@@ -1,10 +1,7 @@
 // The call of `block_patch`.
 ghost use Rattle.std.specs.Prelude.{◌≤◌, length};
 
-use crate::args::Args;
 use crate::differences::address_node;
-use crate::given::Given;
-use crate::nodes::{map_node, number_node, put_part, text_node};
 use crate::patches::cause_word;
 use block_forms::{Block, read_block};
 use block_patch::{EntryFault, OpWhy, apply_entry};
@@ -12,6 +9,7 @@ use json_patch6902::OpList;
 use n32_values::{Doc, Node, NodeMap, Text, is_same_doc};
 use policy_tables::{Address, Policy};
 use std::alloc::Global;
+use worked_rows::{Args, Given, map_node, number_node, put_part, text_node};
 
 /// The arguments of a row, beside the block.
 #[derive(Clone, Copy)]

@@ -4,13 +4,8 @@ ghost use Rattle.spec_messages.specs.Fault.{block_fault};
 ghost use Rattle.spec_messages.specs.Message.{body_depth};
 ghost use Rattle.http_message.specs.Reading.{message_view};
 
-use crate::args::Args;
-use crate::given::Given;
 use crate::holes::place_node;
 use crate::messages::message_node;
-use crate::nodes::{
-    count_node, fault_node, map_node, member_node, number_node, pair_node, put_part, text_node,
-};
 use block_forms::{
     BlockWhy, LimitName, Meta, MetaRead, block_fault, is_meta, meta_node, read_meta,
 };
@@ -21,6 +16,10 @@ use n32_values::{Doc, Node, NodeList, NodeMap, Text, depth, doc_text};
 use policy_tables::Policy;
 use reformat_blocks::{Block, BlockRead, Split, SplitFault, block_doc, read_block, split};
 use std::alloc::Global;
+use worked_rows::{
+    Args, Given, count_node, fault_node, map_node, member_node, number_node, pair_node, put_part,
+    text_node,
+};
 
 fn limit_word(limit: LimitName) -> &'static str {
     match limit {

@@ -1,9 +1,8 @@
 // The calls of the lists and maps of `n32_values`: each changes a copy of `document` and answers it.
-use crate::args::Args;
-use crate::nodes::{count_node, map_node};
 use doc_forms::put;
 use n32_values::{Doc, DocList, Node, NodeList, NodeMap, copy_doc};
 use std::alloc::Global;
+use worked_rows::{Args, count_node, map_node};
 
 fn value_in(alloc: Global, args: Args<'_>) -> Option<Node> {
     copy_doc(alloc, args.document("value")?).ok()

@@ -1,10 +1,9 @@
 // The call of `message_differences`.
-use crate::args::Args;
-use crate::given::Given;
 use message_differences::first_fixed;
 use n32_values::Node;
 use policy_tables::{Address, address_text};
 use std::alloc::Global;
+use worked_rows::{Args, Given};
 
 pub fn address_node(alloc: Global, address: Address) -> Option<Node> {
     match address_text(alloc, &address) {

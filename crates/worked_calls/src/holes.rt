@@ -1,11 +1,9 @@
 // The calls of `enc_index`.
-use crate::args::Args;
-use crate::given::Given;
-use crate::nodes::{fault_node, member_node, number_node};
 use enc_index::{FillFault, Holes, HolesFault, Place, fill, has_hole_spelling, places};
 use json_ptr::pointer_text;
 use n32_values::{Doc, Node, NodeList, Text};
 use std::alloc::Global;
+use worked_rows::{Args, Given, fault_node, member_node, number_node};
 
 fn numbered(alloc: Global, pointer: Text, part: usize) -> Option<Node> {
     match format!(in alloc; "{}#{part}", pointer.as_str()) {

@@ -1,13 +1,11 @@
 // The calls of `json_patch6902`.
-use crate::args::Args;
-use crate::given::Given;
-use crate::nodes::{
-    count_node, fault_node, map_node, member_node, number_node, put_part, text_node,
-};
 use json_patch6902::{ApplyFault, Op, OpList, OpsRead, PatchFault, apply, read_ops};
 use json_ptr::{Pointer, pointer_text};
 use n32_values::{Doc, Node, NodeList, NodeMap, copy_doc, depth, is_same_doc};
 use std::alloc::Global;
+use worked_rows::{
+    Args, Given, count_node, fault_node, map_node, member_node, number_node, put_part, text_node,
+};
 
 fn pointer_node(alloc: Global, pointer: &Pointer) -> Option<Node> {
     match pointer_text(alloc, pointer) {

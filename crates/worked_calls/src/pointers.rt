@@ -1,10 +1,8 @@
 // The calls of `json_ptr`.
-use crate::args::Args;
-use crate::given::Given;
-use crate::nodes::{count_node, fault_node, member_node, text_node};
 use json_ptr::{FindFault, Pointer, PointerRead, find, is_prefix, pointer_text, read_pointer};
 use n32_values::{Node, NodeList, copy_doc};
 use std::alloc::Global;
+use worked_rows::{Args, Given, count_node, fault_node, member_node, text_node};
 
 fn tokens_node(alloc: Global, pointer: Pointer) -> Option<Node> {
     let mut list = NodeList::new(alloc);

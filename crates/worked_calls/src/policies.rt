@@ -1,7 +1,4 @@
 // The calls of `policy_tables`.
-use crate::args::Args;
-use crate::given::{Given, request_in};
-use crate::nodes::{member_node, number_node, number_or_null, text_node};
 use http_message::Kind;
 use json_ptr::find;
 use n32_values::Node;
@@ -11,6 +8,7 @@ use policy_tables::{
     same_policy,
 };
 use std::alloc::Global;
+use worked_rows::{Args, Given, member_node, number_node, number_or_null, request_in, text_node};
 
 fn printed(alloc: Global, policy: Policy) -> Option<Node> {
     policy_doc(alloc, &policy).ok()

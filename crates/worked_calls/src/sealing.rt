@@ -1,10 +1,9 @@
 // The call of `sealing_check`.
-use crate::args::Args;
 use crate::differences::address_node;
-use crate::given::Given;
 use n32_values::Node;
 use sealing_check::first_in_clear;
 use std::alloc::Global;
+use worked_rows::{Args, Given};
 
 /// The address of the first secret of `after`, a message, that stands at no hole of `message`, or null.
 pub fn first_in_clear_call(alloc: Global, args: Args<'_>, given: &Given) -> Option<Node> {

@@ -1,8 +1,7 @@
 // The call of `doc_forms`.
-use crate::args::Args;
-use crate::given::Given;
 use doc_forms::Grammar;
 use n32_values::Node;
+use worked_rows::{Args, Given};
 
 fn grammar_of(word: &str) -> Option<Grammar> {
     match word {

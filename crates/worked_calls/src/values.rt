@@ -1,13 +1,13 @@
 // The calls of `n32_values`.
-use crate::args::Args;
-use crate::given::Given;
-use crate::nodes::{count_node, fault_node, number_node, pair_node, text_node};
 use n32_values::{
     B64Fault, Bytes, Doc, DocFault, Node, PlmnId, Text, Whole, base64url_text, copy_doc, depth,
     doc_text, hex64_text, is_same_doc, read_base64url, read_doc, read_hex64, read_plmn,
     text_length,
 };
 use std::alloc::Global;
+use worked_rows::{
+    Args, Given, count_node, digits_node, fault_node, number_node, pair_node, text_node, words_of,
+};
 
 fn doc_fault(alloc: Global, fault: DocFault) -> Option<Node> {
     match fault {
@@ -51,14 +51,6 @@ pub fn doc_text_call(alloc: Global, given: &Given) -> Option<Node> {
 fn written(alloc: Global, node: Node) -> Option<Node> {
     match doc_text(alloc, &node) {
         Ok(bytes) => words_of(alloc, bytes),
-        Err(_) => None,
-    }
-}
-
-/// The text that bytes are, where they are one.
-pub fn words_of(alloc: Global, bytes: Bytes) -> Option<Node> {
-    match str::from_utf8(bytes.as_slice()) {
-        Ok(text) => text_node(alloc, text),
         Err(_) => None,
     }
 }
@@ -133,14 +125,6 @@ pub fn read_plmn_call(alloc: Global, args: Args<'_>) -> Option<Node> {
 pub fn base64url_text_call(alloc: Global, given: &Given) -> Option<Node> {
     match base64url_text(alloc, given.bytes.as_ref()?.as_slice()) {
         Ok(text) => Some(Node::Words(text)),
-        Err(_) => None,
-    }
-}
-
-/// Bytes as hexadecimal digits.
-pub fn digits_node(alloc: Global, bytes: &[u8]) -> Option<Node> {
-    match hex::encode(alloc, bytes) {
-        Ok(digits) => Some(Node::Words(Text::from_string(digits))),
         Err(_) => None,
     }
 }

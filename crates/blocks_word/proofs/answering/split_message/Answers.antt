@@ -1,7 +1,7 @@
 use Rattle.std.proofs.Common.{◌≡◌, None, ap, ap₂, sym, ◌∙◌}
 use Rattle.spec_messages.specs.Plain.{empty_policy}
 use Rattle.http_message.specs.Reading.{message_view}
-use Rattle.reformat_blocks.specs.Splitting.{splitting}
+use Rattle.spec_messages.specs.Splitting.{splitting}
 use Rattle.block_forms.specs.Metadata.{meta_view}
 use Rattle.blocks_word.specs.BlockAnswers.{no_meta, or_limit_refusal}
 use Rattle.blocks_word.proofs.answering.split_message.Goals as goal

@@ -29,6 +29,7 @@ loop-records-preserved g c =
       front = rw (more, map-append record_view c.loop-records.records.items (c.in_ok-record-in-Ok-Some.record ∷ []))
           (front_more (g.K.Keeper.held c.args.keeper.now) (g.K.Keeper.held c.loop-records.keeper) c.loop-records.number _ _ c.in-Ok-Some.text _ l.front l.same c.in-Ok-Some.ensures.items c.in-Ok-Some.field-0-is
           (rw c.as_slice.ensures at c.in_ok-record-in-Ok-Some.ensures.ok));
+      mirror = c.in_ok-push-in-Ok-Some.ensures.mirror;
       same = c.load.ensures.same ∙ l.same;
       later = omega (arith, l.later, c.load.ensures.cause.later);
     }

@@ -6,7 +6,7 @@ use Rattle.spec_exchange.specs.AcceptRefusals.{Screened}
 use Rattle.spec_exchange.proofs.AcceptLemmas.{passed_by}
 use Rattle.receiving_sepp.specs.Refusing.{told}
 use Rattle.receiving_sepp.specs.Views.{opened_view}
-use Rattle.receiving_sepp.proofs.Stages.{opening_refused, changing_refused, screen_refused, all_pass, opened_none, not_passed}
+use Rattle.receiving_sepp.proofs.Stages.{opening_refused, changing_refused, screen_refused, all_pass, opened_none, opened_ordered, not_passed}
 use Rattle.receiving_sepp.proofs.Verified.{under_any, under_on}
 use Rattle.receiving_sepp.proofs.checks.check.Goals as goal
 
@@ -51,3 +51,6 @@ pub returns-clause-unasked : goal.returns-clause-unasked
 returns-clause-unasked g c d is none =
     let t = c.args.document.now in
     c.in-Ok-change.ensures.unasked (opened_none c.args.store.now.records c.args.node.now t (opened_view t c.in-Ok.opened) c.in-Ok.ensures.opened d is none)
+
+pub returns-clause-ordered : goal.returns-clause-ordered
+returns-clause-ordered g c = opened_ordered c.fault_decides.ensures.ordered c.args.store.now.records c.args.node.now c.args.document.now (opened_view c.args.document.now c.in-Ok.opened) c.in-Ok.ensures.opened c.in-Ok.ensures.stands

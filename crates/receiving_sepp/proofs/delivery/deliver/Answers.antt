@@ -6,7 +6,7 @@ use Rattle.spec_exchange.specs.Calls.{delivered_record}
 use Rattle.receiving_sepp.specs.Outcome.{Answers, delivery_view}
 use Rattle.spec_exchange.specs.ReceivingRefusals.{NoRoom}
 use Rattle.spec_exchange.specs.AcceptRefusals.{Receiving}
-use Rattle.receiving_sepp.specs.declared.faults.AcceptFault.TheVariants.{Refused}
+use Rattle.context_store.specs.declared.call_faults.CallFault.TheVariants.{Refused}
 use Rattle.receiving_sepp.specs.declared.refused.Refused.TheVariants.{Limit}
 use Rattle.receiving_sepp.proofs.Calls.{recorded_delivers, untold_delivers}
 use Rattle.receiving_sepp.proofs.delivery.deliver.Goals as goal

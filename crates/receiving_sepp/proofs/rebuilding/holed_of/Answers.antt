@@ -7,4 +7,4 @@ use Rattle.receiving_sepp.proofs.rebuilding.holed_of.Goals as goal
 pub returns-in-Ok-clause-stands : goal.returns-in-Ok-clause-stands
 returns-in-Ok-clause-stands c =
     let j = c.args.reading.0 in
-    c.block_has_one_message.ensures.back j c.args.count (message_view c.in-Ok.message) (ordered_of j (subst (λ (t : Tree). is_tree t ≡ true) c.doc.ensures.value c.node-known.ensures.tree)) c.requires c.in-Ok.ensures
+    c.block_has_one_message.ensures.back j c.args._count (message_view c.in-Ok.all.message) (ordered_of j (subst (λ (t : Tree). is_tree t ≡ true) c.doc.ensures.value c.node-known.ensures.tree)) c.requires c.in-Ok.ensures.message

@@ -1,10 +1,12 @@
 use Rattle.std.proofs.Common.{◌≡◌, ◌≤◌, length, Ok, ap, ap₂, sym, subst, ◌∙◌, arith, List}
+use Rattle.std.proofs.lemmas.Bool.{ltb-true, ltb-false}
 use Rattle.spec_documents.specs.Tree.{Tree, depth}
 use Rattle.spec_documents.specs.Compact.{compact_text}
 use Rattle.spec_messages.specs.Block.{sent_block}
 use Rattle.spec_messages.specs.Fault.{block_fault}
 use Rattle.spec_messages.specs.Policy.{values}
 use Rattle.spec_messages.specs.Split.{cleared}
+use Rattle.n32_values.specs.View.{tree_of}
 use Rattle.http_message.specs.Reading.{message_view, header_view}
 use Rattle.block_forms.specs.Metadata.{meta_view}
 use Rattle.reformat_blocks.proofs.Hiding.{length-map}
@@ -31,14 +33,14 @@ returns-then-len-gt1024-clause-outcome c =
     over_values c.args.policy.now c.args.mapping m (meta_view c.args.meta) (omega (arith, count, c.len.ensures, c.if-len-gt256.false)) (omega (arith, c.in_ok-sent.ensures.items, c.if-sent-gt4096.false))
     (omega (arith, hidden, c.if-len-gt1024.true))
 
-pub returns-then-text_length-gt4194304-clause-outcome : goal.returns-then-text_length-gt4194304-clause-outcome
-returns-then-text_length-gt4194304-clause-outcome c =
+pub returns-then-is_longer-clause-outcome : goal.returns-then-is_longer-clause-outcome
+returns-then-is_longer-clause-outcome c =
     let m = message_view c.args.message.now in
     let count : length c.headers.result.now ≡ length m.headers = sym (length-map header_view c.headers.result.now) ∙ ap length c.headers.ensures in
     let hidden : c.len-2.result ≡ length (values c.args.policy.now c.args.mapping m) = c.len-2.ensures ∙ ap length c.in_ok-sent.ensures.values in
     let text = ap (λ t. length (compact_text t)) c.in_ok-sent.ensures.block in
     over_text c.args.policy.now c.args.mapping m (meta_view c.args.meta) (omega (arith, count, c.len.ensures, c.if-len-gt256.false)) (omega (arith, c.in_ok-sent.ensures.items, c.if-sent-gt4096.false))
-    (omega (arith, hidden, c.if-len-gt1024.false)) (omega (arith, text, c.text_length.ensures, c.if-text_length-gt4194304.true))
+    (omega (arith, hidden, c.if-len-gt1024.false)) (omega (arith, text, ltb-true 4194304 (length (compact_text (tree_of c.in_ok-sent.sent.block))) (sym c.is_longer.ensures ∙ c.if-is_longer.true)))
 
 pub from_shallow-requires : goal.from_shallow-requires
 from_shallow-requires c =
@@ -71,7 +73,7 @@ returns-clause-outcome c =
     let text = ap (λ t. length (compact_text t)) c.in_ok-sent.ensures.block in
     let block : c.of_doc.result ≡ sent_block pol k m (meta_view c.args.meta) = c.of_doc.ensures.value ∙ c.from_shallow.ensures ∙ c.in_ok-sent.ensures.block in
     all_within pol k m (meta_view c.args.meta) (omega (arith, count, c.len.ensures, c.if-len-gt256.false)) (omega (arith, c.in_ok-sent.ensures.items, c.if-sent-gt4096.false))
-    (omega (arith, hidden, c.if-len-gt1024.false)) (omega (arith, text, c.text_length.ensures, c.if-text_length-gt4194304.false))
+    (omega (arith, hidden, c.if-len-gt1024.false)) (omega (arith, text, ltb-false 4194304 (length (compact_text (tree_of c.in_ok-sent.sent.block))) (sym c.is_longer.ensures ∙ c.if-is_longer.false)))
     ∙ ap₂ (λ (j : Tree) (vs : List Tree). Ok (j, vs)) (sym block) (sym c.in_ok-sent.ensures.values)
 
 pub returns-clause-holes : goal.returns-clause-holes

@@ -17,10 +17,10 @@ use Rattle.replay_world.proofs.handshaking.answer.Goals as goal
 pub returns-in-Ok-offer_of : goal.returns-in-Ok-offer_of
 returns-in-Ok-offer_of g c =
     answer_handled (g.K.Keeper.held c.args.keeper.now) (g.K.Keeper.held c.answer-replied.new.keeper) (g.K.Keeper.faults c.args.keeper.now) (g.K.Keeper.faults c.answer-replied.new.keeper)
-    c.args.world.now c.answer-replied.new.store c.told_reply.new.world c.args.number c.args.node.now c.args.wire.now c.in-Ok.plmn.now c.in-Ok.document.now (offer_view c.args.handed) (hands.offer_view c.in-Ok-offer_of.offer) c.answer-replied.result c.told_reply.result
+    c.args.world.now c.answer-replied.new.store c.tell.new.world c.args.number c.args.node.now c.args.wire.now c.in-Ok.plmn.now c.in-Ok.document.now (offer_view c.args.handed) (hands.offer_view c.in-Ok-offer_of.offer) c.answer-replied.result c.tell.result
     (rw c.is_full-full.ensures at c.in-Ok.ensures.gives) c.in-Ok-offer_of.ensures.gives
     c.answer-replied.ensures.replies
-    (record { consistent = c.answer-replied.ensures.consistent; later = c.answer-replied.ensures.later; failed = c.answer-replied.ensures.failed }) c.requires.ready.sound c.told_reply.ensures
+    (record { consistent = c.answer-replied.ensures.consistent; later = c.answer-replied.ensures.later; failed = c.answer-replied.ensures.failed }) c.requires.ready.sound c.tell.ensures
 
 pub returns-in-Err-offer_of : goal.returns-in-Err-offer_of
 returns-in-Err-offer_of g c =

@@ -15,9 +15,9 @@ use Rattle.replay_world.proofs.handshaking.ended.Goals as goal
 pub returns-in-Ok : goal.returns-in-Ok
 returns-in-Ok g c =
     ended_handled (g.K.Keeper.held c.args.keeper.now) (g.K.Keeper.held c.ended-made.new.keeper) (g.K.Keeper.faults c.args.keeper.now) (g.K.Keeper.faults c.ended-made.new.keeper)
-    c.args.world.now c.ended-made.new.store c.told_document.new.world c.args.number c.args.node.now c.args.wire.now c.in-Ok._plmn.now c.in-Ok.document.now c.ended-made.result c.told_document.result
+    c.args.world.now c.ended-made.new.store c.tell.new.world c.args.number c.args.node.now c.args.wire.now c.in-Ok._plmn.now c.in-Ok.document.now c.ended-made.result c.tell.result
     (rw c.is_full-full.ensures at c.in-Ok.ensures.gives) c.ended-made.ensures.ends
-    (record { consistent = c.ended-made.ensures.consistent; later = c.ended-made.ensures.later; failed = c.ended-made.ensures.failed }) c.requires.sound c.told_document.ensures
+    (record { consistent = c.ended-made.ensures.consistent; later = c.ended-made.ensures.later; failed = c.ended-made.ensures.failed }) c.requires.sound c.tell.ensures
 
 pub returns-in-Err : goal.returns-in-Err
 returns-in-Err g c =

@@ -15,9 +15,9 @@ use Rattle.replay_world.proofs.handshaking.finish.Goals as goal
 pub returns-in-Ok : goal.returns-in-Ok
 returns-in-Ok g c =
     finish_handled (g.K.Keeper.held c.args.keeper.now) (g.K.Keeper.held c.finish-finished.new.keeper) (g.K.Keeper.faults c.args.keeper.now) (g.K.Keeper.faults c.finish-finished.new.keeper)
-    c.args.world.now c.finish-finished.new.store c.finish-finished.new.hands c.told_finish.new.world c.args.number c.args.node.now c.args.wire.now c.in-Ok.plmn.now c.in-Ok.document.now c.finish-finished.result c.told_finish.result
+    c.args.world.now c.finish-finished.new.store c.finish-finished.new.hands c.tell.new.world c.args.number c.args.node.now c.args.wire.now c.in-Ok.plmn.now c.in-Ok.document.now c.finish-finished.result c.tell.result
     (rw c.is_full-full.ensures at c.in-Ok.ensures.gives) c.finish-finished.ensures.finishes
-    (record { consistent = c.finish-finished.ensures.consistent; later = c.finish-finished.ensures.later; failed = c.finish-finished.ensures.failed }) c.requires.sound c.told_finish.ensures
+    (record { consistent = c.finish-finished.ensures.consistent; later = c.finish-finished.ensures.later; failed = c.finish-finished.ensures.failed }) c.requires.sound c.tell.ensures
 
 pub returns-in-Err : goal.returns-in-Err
 returns-in-Err g c =

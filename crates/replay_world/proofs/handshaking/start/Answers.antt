@@ -17,10 +17,10 @@ use Rattle.replay_world.proofs.handshaking.start.Goals as goal
 pub returns-in-Ok-offer_of : goal.returns-in-Ok-offer_of
 returns-in-Ok-offer_of g c =
     start_handled (g.K.Keeper.held c.args.keeper.now) (g.K.Keeper.held c.start-started.new.keeper) (g.K.Keeper.faults c.args.keeper.now) (g.K.Keeper.faults c.start-started.new.keeper)
-    c.args.world.now c.start-started.new.store c.start-started.new.hands c.told_document.new.world c.args.number c.args.node.now c.args.peer.now c.in-Ok.plmn.now (offer_view c.args.handed) (hands.offer_view c.in-Ok-offer_of.offer) c.start-started.result c.told_document.result
+    c.args.world.now c.start-started.new.store c.start-started.new.hands c.tell.new.world c.args.number c.args.node.now c.args.peer.now c.in-Ok.plmn.now (offer_view c.args.handed) (hands.offer_view c.in-Ok-offer_of.offer) c.start-started.result c.tell.result
     (rw c.is_full-full.ensures at c.in-Ok.ensures.gives) c.in-Ok-offer_of.ensures.gives
     c.start-started.ensures.starts c.start-started.ensures.waits c.start-started.ensures.as_before
-    (record { consistent = c.start-started.ensures.consistent; later = c.start-started.ensures.later; failed = c.start-started.ensures.failed }) c.requires.ready.sound c.told_document.ensures
+    (record { consistent = c.start-started.ensures.consistent; later = c.start-started.ensures.later; failed = c.start-started.ensures.failed }) c.requires.ready.sound c.tell.ensures
 
 pub returns-in-Err-offer_of : goal.returns-in-Err-offer_of
 returns-in-Err-offer_of g c =

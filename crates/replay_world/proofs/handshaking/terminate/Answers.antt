@@ -15,9 +15,9 @@ use Rattle.replay_world.proofs.handshaking.terminate.Goals as goal
 pub returns-in-Ok : goal.returns-in-Ok
 returns-in-Ok g c =
     terminate_handled (g.K.Keeper.held c.args.keeper.now) (g.K.Keeper.held c.terminate-made.new.keeper) (g.K.Keeper.faults c.args.keeper.now) (g.K.Keeper.faults c.terminate-made.new.keeper)
-    c.args.world.now c.terminate-made.new.store c.told_document.new.world c.args.number c.args.node.now c.args.id.value c.in-Ok._plmn.now c.terminate-made.result c.told_document.result
+    c.args.world.now c.terminate-made.new.store c.tell.new.world c.args.number c.args.node.now c.args.id.value c.in-Ok._plmn.now c.terminate-made.result c.tell.result
     (rw c.is_full-full.ensures at c.in-Ok.ensures.gives) c.terminate-made.ensures.terminates
-    (record { consistent = c.terminate-made.ensures.consistent; later = c.terminate-made.ensures.later; failed = c.terminate-made.ensures.failed }) c.requires.sound c.told_document.ensures
+    (record { consistent = c.terminate-made.ensures.consistent; later = c.terminate-made.ensures.later; failed = c.terminate-made.ensures.failed }) c.requires.sound c.tell.ensures
 
 pub returns-in-Err : goal.returns-in-Err
 returns-in-Err g c =

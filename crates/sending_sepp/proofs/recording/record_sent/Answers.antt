@@ -6,7 +6,7 @@ use Rattle.context_store.proofs.Calls.{recorded, no_room, untold}
 use Rattle.spec_exchange.specs.Calls.{sent_record}
 use Rattle.sending_sepp.specs.Outcome.{Answers, sealed_view}
 use Rattle.sending_sepp.specs.declared.fault.SendFault.TheVariants as faults
-use Rattle.sending_sepp.specs.declared.fault.ProtectFault.TheVariants.{Refused, Keeper}
+use Rattle.context_store.specs.declared.call_faults.CallFault.TheVariants.{Refused, Keeper}
 use Rattle.sending_sepp.proofs.recording.record_sent.Goals as goal
 
 pub returns-in-Ok-clause-records : goal.returns-in-Ok-clause-records

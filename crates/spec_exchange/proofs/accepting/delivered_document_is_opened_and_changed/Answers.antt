@@ -1,7 +1,7 @@
 use Rattle.std.proofs.Common.{ℕ, [], Option, refl, subst}
 use Rattle.spec_sealing.specs.Received.{received}
 use Rattle.spec_exchange.specs.AcceptRefusals.{Refusal, Screened}
-use Rattle.spec_exchange.specs.FirstFailed.{Delivery, keyed_context, opens, key_for, rebuilt, is_sealed}
+use Rattle.spec_exchange.specs.Stages.{Delivery, keyed_context, opens, key_for, rebuilt, is_sealed}
 use Rattle.spec_exchange.specs.Asked.{mapping_by}
 use Rattle.spec_exchange.specs.Accepting.{sealed_values, terms_of}
 use Rattle.spec_exchange.specs.AcceptDelivered.{IsDelivered}

@@ -1,5 +1,5 @@
-use Rattle.spec_exchange.proofs.IsolationLemmas.{isolated}
+use Rattle.spec_exchange.proofs.IsolationLemmas.{apart}
 use Rattle.spec_exchange.proofs.runs.contexts_apart.Goals as goal
 
 pub returns : goal.returns
-returns c = isolated
+returns c = apart

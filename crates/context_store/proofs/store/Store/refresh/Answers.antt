@@ -11,6 +11,6 @@ returns-then-self-clause-sound g c =
 
 pub returns-clause-sound : goal.returns-clause-sound
 returns-clause-sound g c =
-    rw c.in_ok-self-inside.ensures.same
-    (has_no_bad (g.K.Keeper.held c.args.keeper.now) (map record_view c.in_ok-self-inside.field-0.items) c.in_ok-self-inside.ensures.ok
-    (omega (arith, c.in_ok-self-inside.ensures.few, length-map c.in_ok-self-inside.field-0.items record_view)))
+    rw c.in_ok-records.ensures.same
+    (has_no_bad (g.K.Keeper.held c.args.keeper.now) (map record_view c.in_ok-records.records.items) c.in_ok-records.ensures.ok
+    (omega (arith, c.in_ok-records.ensures.few, length-map c.in_ok-records.records.items record_view)))

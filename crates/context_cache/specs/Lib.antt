@@ -1,0 +1,4 @@
+pub mod Names
+pub mod Known
+pub mod Tables
+pub mod Mirror

@@ -1,7 +1,0 @@
-use Rattle.std.proofs.Common.{◌≡◌, map, drop}
-use Rattle.spec_records.specs.Records as spec
-use Rattle.context_records.specs.View.{record_view}
-use Rattle.context_store.proofs.questions.answered.Given as goal
-
-abbrev pub invariant-loop-record : goal.invariant-loop-record
-invariant-loop-record l = spec.answered l.node l.id.value l.message.value (map record_view (drop l.record-index l.records)) ≡ spec.answered l.node l.id.value l.message.value (map record_view l.records)

@@ -1,0 +1,5 @@
+use Rattle.std.proofs.Common.{◌∙◌}
+use Rattle.context_store.proofs.store.Store.answered.Goals as goal
+
+pub returns : goal.returns
+returns c = rw (← c.self.view_is) ((rw c.as_str.ensures at c.answered.ensures) ∙ (c.self.invariant.2 c.args.node.now c.args.id.value).answered c.args.message.value)

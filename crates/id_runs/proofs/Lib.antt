@@ -1,0 +1,4 @@
+mod Rising
+mod Joined
+pub mod Entries
+mod Halving

@@ -1,0 +1,2 @@
+pub mod ByHandshakes
+pub mod Rows

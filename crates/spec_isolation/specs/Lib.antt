@@ -1,0 +1,3 @@
+pub mod Concerns
+pub mod Alone
+pub mod OwnPart
