@@ -9,9 +9,6 @@ use Rattle.spec_sealing.specs.AesField.{inverse, polynomial_product, product, re
 use Rattle.spec_documents.proofs.Below.{all_below, all_below-at, same_below}
 
 module _ (a b c d : ℕ) (ha : a < 256) (hb : b < 256) (hc : c < 256) (hd : d < 256) where
-  word_of-nested : word_of a b c d ≡ ((a * 2 ^ 8 + b) * 2 ^ 8 + c) * 2 ^ 8 + d
-  word_of-nested = omega arith
-
   pub to_be_bytes-word_of : to_be_bytes w32 (word_of a b c d) ≡ a ∷ b ∷ c ∷ d ∷ []
   to_be_bytes-word_of =
       let e3 : byte_at 3 (word_of a b c d) ≡ a = omega arith in

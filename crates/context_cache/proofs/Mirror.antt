@@ -416,23 +416,6 @@ known_other node id rs r k other h =
 
 -- ---- the table
 
-pub mirror_nothing : IsMirror [] []
-mirror_nothing node id = record {
-  used = refl;
-  opened = refl;
-  opens = refl;
-  closed = refl;
-  keyed = refl;
-  keys = refl;
-  sent_request = refl;
-  sent_response = refl;
-  mapping_sent = λ m. refl;
-  answered = λ m. refl;
-  mapping_delivered = λ m. refl;
-  delivered_request = λ m. refl;
-  delivered_response = λ m. refl;
-}
-
 pub mirror_same : (old new : List Kept) (rs : List Record) → ((n : List ℕ) (i : ℕ) → known_at n i new ≡ known_at n i old) → IsMirror old rs → IsMirror new rs
 mirror_same old new rs same h = λ node id. subst (λ k. IsKnown node id rs k) (sym (same node id)) (h node id)
 

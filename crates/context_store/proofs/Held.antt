@@ -13,16 +13,6 @@ use Rattle.context_store.specs.ByKind.{delivery_of, greatest_of}
 
 -- ---- a record by its number
 
-pub held_some : {X : Type 0} (f : spec.Record → Option X) (rs : List Record) (n : ℕ) (r : Record) → slice_get rs n ≡ Some r → held_in f (slice_get (map record_view rs) n) ≡ f (record_view r)
-held_some f [] n r e = cc
-held_some f (q ∷ rs) zero r e = let same : q ≡ r = cc in ap (λ z. f (record_view z)) same
-held_some f (q ∷ rs) (suc n) r e = held_some f rs n r e
-
-pub held_none : {X : Type 0} (f : spec.Record → Option X) (rs : List Record) (n : ℕ) → slice_get rs n ≡ None → held_in f (slice_get (map record_view rs) n) ≡ None
-held_none f [] n e = refl
-held_none f (q ∷ rs) zero e = cc
-held_none f (q ∷ rs) (suc n) e = held_none f rs n e
-
 -- ---- the context
 
 pub opening_now : (caches : List Kept) (rs : List spec.Record) (o : Option spec.Context) (number : Option ℕ) (n m : List ℕ) (i j : ℕ)

@@ -1,7 +1,6 @@
 //! The tables of a script: a line for each call that fails, and a line for the fronts of the script that come to the same.
 
 use crate::playing::{Failing, Outcome, play};
-use replay_runs::Status;
 use std::alloc::{AllocError, Global};
 
 // The calls of one object that are tried at most.
@@ -131,8 +130,11 @@ fn print_front(
         return println!(rt; "{{\"cut\":[{first},{last}],{left},\"front\":true}}").is_ok();
     }
     let start = last_answer(written);
-    let front = is_front(&written[..start], whole);
-    match str::from_utf8(&written[start..]) {
+    let (Some(before), Some(last_line)) = (written.get(..start), written.get(start..)) else {
+        return false;
+    };
+    let front = is_front(before, whole);
+    match str::from_utf8(last_line) {
         Ok(line) => {
             let further = line.trim_end();
             println!(rt;
@@ -163,43 +165,30 @@ fn print_outcome(
     }
 }
 
-// The same, where `script` is the shortest of these fronts.
-fn print_fronts(
-    rt: &HostRuntime,
-    script: &[u8],
-    first: usize,
-    last: usize,
-    whole: &Outcome,
-) -> bool {
-    match play(rt.alloc(), REPLAY, script, Failing::Nothing, 0) {
-        Some(outcome) => print_outcome(rt, first, last, &outcome, whole),
-        None => false,
-    }
-}
-
 // What the run of a script comes to.
-fn ending_of(rt: &HostRuntime, script: &[u8]) -> Option<(Status, [u8; 32])> {
-    match play(rt.alloc(), REPLAY, script, Failing::Nothing, 0) {
-        Some(outcome) => Some((outcome.status, outcome.digest)),
-        None => None,
-    }
+fn ending_of(rt: &HostRuntime, script: &[u8]) -> Option<Outcome> {
+    play(rt.alloc(), REPLAY, script, Failing::Nothing, 0)
 }
 
 // A line for each run of fronts that come to the same, from the empty one to the whole script.
 fn print_cuts(rt: &HostRuntime, script: &[u8], whole: &Outcome) -> bool {
     let mut first = 0usize;
-    let mut ending = ending_of(rt, &[]);
+    let Some(mut ending) = ending_of(rt, &[]) else {
+        return false;
+    };
     for length in 1..=script.len() {
-        let next = ending_of(rt, &script[..length]);
-        if next != ending {
-            if !print_fronts(rt, &script[..first], first, length - 1, whole) {
+        let Some(next) = ending_of(rt, &script[..length]) else {
+            return false;
+        };
+        if !is_same(&next, &ending) {
+            if !print_outcome(rt, first, length - 1, &ending, whole) {
                 return false;
             }
             first = length;
             ending = next;
         }
     }
-    print_fronts(rt, &script[..first], first, script.len(), whole)
+    print_outcome(rt, first, script.len(), &ending, whole)
 }
 
 // The line of the run without faults.

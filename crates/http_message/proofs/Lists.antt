@@ -23,10 +23,6 @@ pub read_more : {A B X : Type 0} (view : X → B) (f : A → Option B) (m : Memb
 read_more view f m done a rest x all h e =
     ap (λ ys. with_front ys (all_read f rest)) (map-append view done (x ∷ [])) ∙ sym (front_step (map view done) (f a) (view x) m (all_read f rest) e) ∙ h
 
--- all were read
-pub read_all : {B X : Type 0} (view : X → B) (m : Member) (done : List X) (all : Option (List B)) → with_front (map view done) (Some []) ≡ all → wanted all m ≡ Ok (map view done)
-read_all view m done all h = ap (λ o. wanted o m) (sym h) ∙ ap Ok (append-nil (map view done))
-
 none_of : {B : Type 0} (o : Option B) (m k : Member) → wanted o m ≡ Err k → o ≡ None
 none_of None m k e = refl
 none_of (Some x) m k e = cc

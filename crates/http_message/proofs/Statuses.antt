@@ -10,9 +10,6 @@ use Rattle.spec_messages.specs.Message.{response, status_line, status_head}
 
 -- ---- numbers
 
-pub within_status : (n : ℕ) → IsStatusCode n → is_within 100 999 n ≡ true
-within_status n h = and_from _ _ (le-leb 100 n h.0) (le-leb n 999 (omega arith))
-
 pub status_within : (n : ℕ) → is_within 100 999 n ≡ true → IsStatusCode n
 status_within n e =
     let p = and_parts (nat_le 100 n) (nat_le n 999) e in
@@ -25,30 +22,9 @@ status_within n e =
 digit : (d : ℕ) → 48 ≤ d → d ≤ 57 → is_ascii_digit d ≡ true
 digit d low high = and_from _ _ (le-leb 48 d low) (le-leb d 57 high)
 
-three_digits : (d e f : ℕ) → 48 < d → d ≤ 57 → 48 ≤ e → e ≤ 57 → 48 ≤ f → f ≤ 57 → is_index (d ∷ e ∷ f ∷ []) ≡ true
-three_digits d e f dl dh el eh fl fh =
-    let first : 48 ≤ d = omega arith in
-    and_from _ _ (and_from _ _ (digit d first dh) (ap not (ne_eqb d 48 (λ is. omega arith)))) (and_from _ _ (digit e el eh) (and_from _ _ (digit f fl fh) refl))
-
 chosen : (a : Bool) (n : ℕ) → a ≡ true → (if a && true then Some n else None) ≡ Some n
 chosen true n e = refl
 chosen false n e = cc
-
-digits_status : (n : ℕ) → IsStatusCode n → status_of (code_digits n) ≡ Some n
-digits_status n h =
-    let a : 1 ≤ n / 100 = omega (arith, h.0) in
-    let b : n / 100 ≤ 9 = omega (arith, h.1) in
-    let c : n / 10 % 10 ≤ 9 = omega arith in
-    let d : n % 10 ≤ 9 = omega arith in
-    let number : index_number (code_digits n) ≡ n = omega arith in
-    chosen (is_index (code_digits n)) (index_number (code_digits n)) (three_digits (48 + n / 100) (48 + n / 10 % 10) (48 + n % 10) (omega arith) (omega arith) (omega arith) (omega arith) (omega arith) (omega arith))
-    ∙ ap Some number
-
-pub status_read : (n : ℕ) (s : List ℕ) → IsStatusCode n → code_digits n ≡ s → status_head (status_of s) ≡ Ok (response n)
-status_read n s h e =
-    ap (λ x. status_head (status_of x)) (sym e)
-    ∙ ap status_head (digits_status n h)
-    ∙ ap (λ b. if b then Ok (response n) else Err status_line) (within_status n h)
 
 -- ---- texts that are none
 

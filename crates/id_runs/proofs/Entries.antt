@@ -18,14 +18,6 @@ entry_more x id e (p ∷ es) = step (nat_eq x p.0) (entry_of x (es ++ (id, e) �
 pub with_entry_told : (x id : ℕ) (e : Entry) (es : List (ℕ × Entry)) → entry_of id es ≡ None → entry_of x (with_entry id e es) ≡ option_or (entry_of x es) (if x == id then Some e else None)
 with_entry_told x id e es none = ap (λ o. entry_of x (if is_some o then es else es ++ (id, e) ∷ [])) none ∙ entry_more x id e es
 
-pub some_more : (x id : ℕ) (e : Entry) (es : List (ℕ × Entry)) → is_some (entry_of x (es ++ (id, e) ∷ [])) ≡ (is_some (entry_of x es) || (x == id))
-some_more x id e es = ap is_some (entry_more x id e es) ∙ split (entry_of x es) (x == id)
-  where
-    split : (o : Option Entry) (b : Bool) → is_some (option_or o (if b then Some e else None)) ≡ (is_some o || b)
-    split (Some y) b = refl
-    split None true = refl
-    split None false = refl
-
 -- an id in a run has its entry
 pub some_there : (i id : ℕ) (runs : List Run) (es : List (ℕ × Entry)) → IsRuns runs es → IsInRun i id runs → entry_of id es ≡ None → ⊥
 some_there i id runs es h inside none =

@@ -84,10 +84,6 @@ apart_back low zero rs h = h
 apart_back low (suc i) [] h = tt
 apart_back low (suc i) (r ∷ rs) h = apart_back (r.last + 2) i rs h.2
 
-pub end_below : (low id : ℕ) (xs : List Run) → low ≤ id + 1 → IsBelow id xs → end_of low xs ≤ id + 1
-end_below low id [] le h = le
-end_below low id (r ∷ xs) le h = end_below (r.last + 2) id xs (omega (arith, h.0)) h.1
-
 end_suc : (low i : ℕ) (rs : List Run) (r : Run) → slice_get rs i ≡ Some r → end_of low (take (suc i) rs) ≡ r.last + 2
 end_suc low i [] r e = cc
 end_suc low zero (q ∷ rs) r e = let same : q ≡ r = cc in ap (λ z. z.last + 2) same

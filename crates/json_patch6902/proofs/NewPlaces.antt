@@ -128,7 +128,3 @@ pub takes_under : {A : Type 0} (p : Pointer) (t u : Tree) (x : List ℕ) (r : Re
 takes_under p t u x (Ok z) some a l h = λ v. (with t (front p) (h v).0, added_by p v t u x some a l ∙ ap (λ r. r >>= λ w. Ok (with t (front p) w)) (h v).1)
 takes_under p t u x (Err (because why)) some a l h = λ v. added_by p v t u x some a l ∙ ap (λ r. r >>= λ w. Ok (with t (front p) w)) (h v)
 takes_under p t u x (Err NoMemory) some a l h = tt
-
-pub takes_nowhere : (p : Pointer) (t : Tree) (why : Cause) → 0 < length p → at t (front p) ≡ Err why → (v : Tree) → added p v t ≡ Err why
-takes_nowhere [] t why some a = absurd (omega arith)
-takes_nowhere (y ∷ p) t why some a = λ v. rw a refl

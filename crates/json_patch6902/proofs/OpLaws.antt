@@ -71,9 +71,6 @@ added_deep p v t w h e = ap (λ r. r >>= within_depth) e ∙ within_no w (omega 
 pub refused_first : (r : Result Tree Cause) (why : Cause) (f : Tree → Result Tree Cause) → r ≡ Err why → (r >>= f) ≡ Err why
 refused_first r why f e = rw e
 
-pub ok_first : (r : Result Tree Cause) (u : Tree) (f : Tree → Result Tree Cause) (out : Result Tree Cause) → r ≡ Ok u → f u ≡ out → (r >>= f) ≡ out
-ok_first r u f out e h = rw e h
-
 -- at a place that is not the root
 pub added_is : (p : Pointer) (v t : Tree) → 0 < length p → added p v t ≡ edit (adding v) p t
 added_is [] v t h = absurd (omega arith)

@@ -30,10 +30,6 @@ replaced_edits p v t u s (Err NoMemory) doc low a h = tt
 
 -- ---- what is refused before anything is done
 
-pub refused_edits : (t : Tree) (r : Result Tree Cause) (e : EditFault) → Refuses t t r e → Refuses t t (r >>= within_depth) e
-refused_edits t r (because why) h = (refused_first r (cause_view why) within_depth h.0, refl)
-refused_edits t r NoMemory h = tt
-
 -- ---- moves
 
 pub no_move_edits : (from p : Pointer) (t u : Tree) (e : EditFault) → is_beneath from p ≡ false → Refuses t u (removed from t) e → Refuses t u (patched t (spec.move from p)) e

@@ -30,13 +30,5 @@ module _ (key : ContentKey) (w : Jwe) (head tail : List ℕ) (is_head : head ≡
       ap (λ b. cond b (Some (with_key_stream (content_cipher key) w.iv w.ciphertext)) None) same ∙ ap (λ t. Some t) (sym (h.text ∙ ap (with_key_stream (content_cipher key) w.iv) is_old)) in
       rw (fits, text) refl
 
-  pub other_parts : (old : List ℕ) → old ≡ w.ciphertext → w.tag ≢ tag_of (content_cipher key) w.iv (head ++ tail) old → opens key w ≡ Err Integrity
-  unfolding ◌>>=◌
-  other_parts old is_old other = rw (fits, none) refl
-    where
-      tested : (b : Bool) → bytes_eq w.tag (tag_of (content_cipher key) w.iv (additional_data w) w.ciphertext) ≡ b → cond b (Some (with_key_stream (content_cipher key) w.iv w.ciphertext)) None ≡ None
-      tested true e = absurd (other ((bytes_eq-Decides w.tag (tag_of (content_cipher key) w.iv (additional_data w) w.ciphertext)).0 e ∙ sym (λ i. tag_of (content_cipher key) w.iv (all i) (is_old i))))
-      tested false e = refl
-
       none : opened key w ≡ None
       none = tested (bytes_eq w.tag (tag_of (content_cipher key) w.iv (additional_data w) w.ciphertext)) refl

@@ -53,10 +53,6 @@ members_step es i k t total next part top here is grown =
     let rest : length (members_text (nat_lt 0 (i + 1)) (fields (drop (i + 1) es))) ≡ length (members_text true (fields (drop (i + 1) es))) = ap (λ b. length (members_text b (fields (drop (i + 1) es)))) (past_first i) in
     omega (arith, whole, rest, is, grown)
 
-pub members_done : (es : List Field) (i total all top : ℕ) → length es ≤ i → min (total + length (members_text (nat_lt 0 i) (fields (drop i es)))) top ≡ min all top
-    → min (total + 1) top ≡ min all top
-members_done es i total all top le h = ap (λ us. min (total + length (members_text (nat_lt 0 i) (fields us))) top) (sym (drop_past es i le)) ∙ h
-
 -- ---- texts
 
 pub escape_step : (bs : List ℕ) (i b total next top : ℕ) → slice_get bs i ≡ Some b → next ≡ min (total + length (escape_byte b)) top
@@ -65,13 +61,6 @@ escape_step bs i b total next top here grown =
     let whole : length (escape (drop i bs)) ≡ length (escape_byte b) + length (escape (drop (i + 1) bs))
     = ap (λ us. length (escape us)) (drop_at bs i b here) ∙ length-append (escape_byte b) _ in
     omega (arith, whole, grown)
-
-pub quoted_done : (bs : List ℕ) (i total top : ℕ) → length bs ≤ i → total ≤ top → min (total + length (escape (drop i bs))) top ≡ min (1 + length (escape bs)) top → min (total + 1) top ≡ min (length (quoted bs)) top
-quoted_done bs i total top le fits h =
-    let last : min (total + 0) top ≡ min (1 + length (escape bs)) top = ap (λ us. min (total + length (escape us)) top) (sym (drop_past bs i le)) ∙ h in
-    let inner = length-append (escape bs) (34 ∷ []) in
-    let whole : length (quoted bs) ≡ 1 + (length (escape bs) + 1) = omega (arith, inner) in
-    omega (arith, last, whole, fits)
 
 -- ---- numbers
 
@@ -133,11 +122,6 @@ most_items_step ts i t total next part top all here is grown h =
     let rest : length (items_text (nat_lt 0 (i + 1)) (trees (drop (i + 1) ts))) ≡ length (items_text true (trees (drop (i + 1) ts))) = ap (λ b. length (items_text b (trees (drop (i + 1) ts)))) (past_first i) in
     omega (arith, whole, rest, is, grown, h, comma_short (nat_lt 0 i), items_end true (trees (drop (i + 1) ts)))
 
-pub most_items_done : (ts : List Tree) (i total top all : ℕ) → length ts ≤ i → min all top + 1 ≤ total + length (items_text (nat_lt 0 i) (trees (drop i ts))) → min all top ≤ total
-most_items_done ts i total top all le h =
-    let last : length (items_text (nat_lt 0 i) (trees (drop i ts))) ≡ 1 = ap (λ us. length (items_text (nat_lt 0 i) (trees us))) (drop_past ts i le) in
-    omega (arith, last, h)
-
 pub most_members_step : (es : List Field) (i : ℕ) (k : List ℕ) (t : Tree) (total next part top all : ℕ) → slice_get es i ≡ Some (k, t) → min (length (quoted k) + 2 + length (compact_text t)) top ≤ part → next ≡ min (total + part) top
     → min all top + 1 ≤ total + length (members_text (nat_lt 0 i) (fields (drop i es))) → min all top + 1 ≤ next + length (members_text (nat_lt 0 (i + 1)) (fields (drop (i + 1) es)))
 most_members_step es i k t total next part top all here is grown h =
@@ -145,11 +129,6 @@ most_members_step es i k t total next part top all here is grown h =
     = ap (λ us. length (members_text (nat_lt 0 i) (fields us))) (drop_at es i (k, t) here) ∙ member_length (nat_lt 0 i) k t (fields (drop (i + 1) es)) in
     let rest : length (members_text (nat_lt 0 (i + 1)) (fields (drop (i + 1) es))) ≡ length (members_text true (fields (drop (i + 1) es))) = ap (λ b. length (members_text b (fields (drop (i + 1) es)))) (past_first i) in
     omega (arith, whole, rest, is, grown, h, comma_short (nat_lt 0 i), members_end true (fields (drop (i + 1) es)))
-
-pub most_members_done : (es : List Field) (i total top all : ℕ) → length es ≤ i → min all top + 1 ≤ total + length (members_text (nat_lt 0 i) (fields (drop i es))) → min all top ≤ total
-most_members_done es i total top all le h =
-    let last : length (members_text (nat_lt 0 i) (fields (drop i es))) ≡ 1 = ap (λ us. length (members_text (nat_lt 0 i) (fields us))) (drop_past es i le) in
-    omega (arith, last, h)
 
 one_of : (a b : Bool) (p q r s t u v w x : ℕ) → length (cond a (p ∷ q ∷ []) (cond b (r ∷ s ∷ t ∷ u ∷ v ∷ w ∷ []) (x ∷ []))) ≤ 6
 one_of true b p q r s t u v w x = omega arith

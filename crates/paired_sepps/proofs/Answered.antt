@@ -14,11 +14,6 @@ use Rattle.spec_exchange.proofs.UntouchedLemmas.{protected-answered, id-fits}
 use Rattle.paired_sepps.specs.Untouched.{IsBodyDocument}
 use Rattle.paired_sepps.proofs.Shipped.{sealed_values}
 
--- the intermediary of a block is an identity or `null`
-pub authorized_named : (ss : List (List ℕ)) → are_ipx ss ≡ true → (is_identity (authorized ss) || bytes_eq (authorized ss) (codes "null")) ≡ true
-authorized_named [] e = refl
-authorized_named (s ∷ ss) e = or_left (is_identity s) _ (and_parts (is_identity s) _ (and_parts (nat_le (length (s ∷ ss)) 1) _ e).1).0
-
 sending_key : (kind : Kind) (k : KeySet) → IsKeySet k → IsOneKey (send_key kind k)
 sending_key of_request k is = is.send_request
 sending_key of_response k is = is.send_response

@@ -69,10 +69,6 @@ abbrev pub AreValues : ℕ → List Tree → Type 0
 AreValues deep [] = Unit {0}
 AreValues deep (t ∷ ts) = IsValue deep t × AreValues deep ts
 
-pub values_append : (deep : ℕ) (ts us : List Tree) → AreValues deep ts → AreValues deep us → AreValues deep (ts ++ us)
-values_append deep [] us h k = k
-values_append deep (t ∷ ts) us h k = (h.0, values_append deep ts us h.1 k)
-
 pub values_documents : (deep : ℕ) (ts : List Tree) → AreValues deep ts → ItemsAreDocuments (trees ts)
 values_documents deep [] h = tt
 values_documents deep (t ∷ ts) h = (h.0.document, values_documents deep ts h.1)

@@ -35,9 +35,6 @@ some_by : (o : Option (List (List ℕ × Bool))) → is_some o ≡ true → o �
 some_by None h = cc
 some_by (Some x) h = refl
 
-pub some_given : (t : Tree) → is_some (grants_of t) ≡ true → grants_of t ≡ Some (grants_in t)
-some_given t h = some_by (grants_of t) h
-
 -- ---- a look-up by name
 
 told_truth : (k : List ℕ) (t : Tree) (g : List ℕ × Bool) → told k (truth_of t) ≡ Some g → (g.0 ≡ k) × (truth_of t ≡ Some g.1)

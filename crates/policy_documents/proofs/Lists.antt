@@ -92,10 +92,6 @@ all_fail f xs i a all is h e = sym (ap (λ t. t && list_all f (drop (i + 1) xs))
 
 -- ---- what is made of a list that was read
 
-pub mapped_given : {A B : Type 0} (f : A → B) (o : Option A) (k : ℕ) (y : A) → wanted o k ≡ Ok y → wanted (option_map f o) k ≡ Ok (f y)
-mapped_given f None k y e = cc
-mapped_given f (Some x) k y e = let same : x ≡ y = cc in ap (λ z. Ok (f z)) same
-
 wanted_none : {A B : Type 0} (f : A → B) (o : Option A) (k j : ℕ) → wanted o k ≡ Err j → wanted (option_map f o) k ≡ Err j
 wanted_none f None k j e = let same : k ≡ j = cc in ap Err same
 wanted_none f (Some x) k j e = cc

@@ -19,9 +19,6 @@ passes_by s (Err k) p e = cc
 pub pointer_kept : (s : List ℕ) (p : Pointer) → read_pointer s ≡ Ok p → if_passes (λ r. is_ok (read_pointer r)) s ≡ Some (pointer_text p)
 pointer_kept s p e = passes_by s (read_pointer s) p e ∙ ap Some (sym (pointer_text-read s p e))
 
-pub listed_type : (x : spec.Sort) (ts : List IeType) → list_any (λ t. spec.same_sort x (sort_view t)) ts ≡ list_any (spec.same_sort x) (map sort_view ts)
-listed_type x ts = sym (any_map (spec.same_sort x) sort_view ts)
-
 filter_step : (f : spec.Sort → Bool) (x : spec.Sort) (xs ys : List spec.Sort) (t : Bool) → f x ≡ t → filter f (xs ++ ys) ≡ filter f xs ++ filter f ys → filter f ((x ∷ xs) ++ ys) ≡ filter f (x ∷ xs) ++ filter f ys
 filter_step f x xs ys true e h = rw e (ap (λ zs. x ∷ zs) h)
 filter_step f x xs ys false e h = rw e h

@@ -170,31 +170,6 @@ pointer_same p q =
 pub grants_same : (r : Bool) (gs hs : List (List ℕ × Bool)) → (IsTrue r ↔ (gs ≡ hs)) → r ≡ same_grants gs hs
 grants_same r gs hs h = bool_same r (same_grants gs hs) (λ e. ap (same_grants gs) (sym (h.0 e)) ∙ grants-self gs) (λ e. h.1 (grants-is gs hs e))
 
--- a target of another place
-pub no_uri : (t : Held) → ((n : _) → t ≢ UriParam n) → same_location uri_param (target_view t).place ≡ false
-no_uri (UriParam n) h = absurd (h n refl)
-no_uri (Header n) h = refl
-no_uri (Body n) h = refl
-no_uri (MultipartBinary n) h = refl
-
-pub no_header : (t : Held) → ((n : _) → t ≢ Header n) → same_location header (target_view t).place ≡ false
-no_header (UriParam n) h = refl
-no_header (Header n) h = absurd (h n refl)
-no_header (Body n) h = refl
-no_header (MultipartBinary n) h = refl
-
-pub no_body : (t : Held) → ((n : _) → t ≢ Body n) → same_location body (target_view t).place ≡ false
-no_body (UriParam n) h = refl
-no_body (Header n) h = refl
-no_body (Body n) h = absurd (h n refl)
-no_body (MultipartBinary n) h = refl
-
-pub no_binary : (t : Held) → ((n : _) → t ≢ MultipartBinary n) → same_location multipart_binary (target_view t).place ≡ false
-no_binary (UriParam n) h = refl
-no_binary (Header n) h = refl
-no_binary (Body n) h = refl
-no_binary (MultipartBinary n) h = absurd (h n refl)
-
 -- ---- lists item by item
 
 pub lengths_differ : {A X : Type 0} (view : A → X) (test : X → X → Bool) (xs ys : List A) → length xs ≢ length ys → same_list test (map view xs) (map view ys) ≡ false
@@ -269,6 +244,3 @@ differs_none view xs ys i a b h =
 
 pub types_same : (r : Bool) (ss ts : List Sort) → r ≡ same_list same_sort ss ts → r ≡ true → ss ≡ ts
 types_same r ss ts e h = same_list-is same_sort sort-is ss ts (sym e ∙ h)
-
-pub types_differ : (r : Bool) (ss ts : List Sort) → r ≡ same_list same_sort ss ts → r ≡ false → ss ≡ ts → ⊥
-types_differ r ss ts e h s = let no : false ≡ true = sym h ∙ e ∙ ap (same_list same_sort ss) (sym s) ∙ list-self same_sort sort-self ss in cc

@@ -21,19 +21,6 @@ unlines-append (x ∷ xs) ys rest =
 pub unlines-one : (line rest : List ℕ) → unlines (line ∷ []) ++ rest ≡ line ++ 10 ∷ rest
 unlines-one line rest = ap (λ z. z ++ rest) (append-nil (ended line)) ∙ append_assoc line (10 ∷ []) rest
 
--- nothing has been read of a text
-pub feeds_none : {M : Type 0} (gives : Gives M) (old : M) (number : ℕ) (begun rest : List ℕ) (written : Option (List ℕ)) → IsLine begun → Feeds gives old number (begun ++ rest) old number begun rest written written
-feeds_none gives old number begun rest written line = record {
-  lines = [];
-  whole = refl;
-  each = tt;
-  line = line;
-  counted = omega arith;
-  out = [];
-  answered = (refl, refl);
-  written = Appends-nil written;
-}
-
 -- a part of the rest goes to the begun line
 pub feeds_part : {M : Type 0} (gives : Gives M) (old : M) (number : ℕ) (text : List ℕ) (new : M) (count next : ℕ) (begun part rest all line : List ℕ) (before after : Option (List ℕ))
     → Feeds gives old number text new count begun all before after → all ≡ part ++ rest → next ≡ count → line ≡ begun ++ part → IsPlain part → length line ≤ line_limit

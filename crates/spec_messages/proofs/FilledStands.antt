@@ -69,9 +69,6 @@ stands_here j n c vs x k e o =
     let g = fill_parts_of c vs x e in
     subst (StandsFor (fill_all vs j)) g.1 (filled_stands j n c vs k g.0 (ap (λ (m : Message). is_ordered_body m.body) g.1 ∙ o))
 
-pub stands_there : (j : Tree) (n : ℕ) (c : Message) (vs : List Tree) (x : Message) (t : Tree) → IsBlock j n c → filled vs c ≡ Some x → fill_tree vs j ≡ Some t → is_ordered_body x.body ≡ true → StandsFor t x
-stands_there j n c vs x t k e f o = subst (λ t. StandsFor t x) (guard_true _ (fill_all vs j) t f).1 (stands_here j n c vs x k e o)
-
 -- ---- where each value has its names in order
 
 values_ordered : (vs : List Tree) → list_all is_ordered vs ≡ true → (n : ℕ) → is_ordered (value_at vs n) ≡ true
