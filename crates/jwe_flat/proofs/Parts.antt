@@ -9,14 +9,6 @@ use Rattle.spec_sealing.specs.Suites.{ContentKey, suite_of, content_cipher}
 use Rattle.spec_sealing.specs.Header.{header_text}
 use Rattle.spec_sealing.specs.Jwe.{Jwe, Integrity, before_aad, additional_data, misfit, opened, opens, sealed}
 
-pub sealed_parts : (key : ContentKey) (nonce block values : List ℕ) (w : Jwe) (head tail old : List ℕ) → w.protected ≡ header_text (suite_of key) → w.aad ≡ base64url block → w.iv ≡ nonce
-    → head ≡ before_aad w.protected → tail ≡ w.aad → old ≡ values → Seals (content_cipher key) nonce (head ++ tail) old w.ciphertext w.tag → w ≡ sealed key nonce block values
-sealed_parts key nonce block values w head tail old protected aad iv is_head is_tail is_old h =
-    let e : List ℕ → List ℕ = content_cipher key in
-    let all : head ++ tail ≡ before_aad (header_text (suite_of key)) ++ base64url block = λ i. (is_head ∙ ap before_aad protected) i ++ (is_tail ∙ aad) i in
-    let text : w.ciphertext ≡ with_key_stream e nonce values = h.text ∙ ap (with_key_stream e nonce) is_old in
-    λ i. record { protected = protected i; aad = aad i; iv = iv i; ciphertext = text i; tag = (h.tag ∙ (λ j. tag_of e nonce (all j) (text j))) i }
-
 module _ (key : ContentKey) (w : Jwe) (head tail : List ℕ) (is_head : head ≡ before_aad w.protected) (is_tail : tail ≡ w.aad) (fits : misfit key w ≡ None) where
   all : head ++ tail ≡ additional_data w
   all i = is_head i ++ is_tail i
@@ -29,6 +21,3 @@ module _ (key : ContentKey) (w : Jwe) (head tail : List ℕ) (is_head : head ≡
       let text : opened key w ≡ Some new =
       ap (λ b. cond b (Some (with_key_stream (content_cipher key) w.iv w.ciphertext)) None) same ∙ ap (λ t. Some t) (sym (h.text ∙ ap (with_key_stream (content_cipher key) w.iv) is_old)) in
       rw (fits, text) refl
-
-      none : opened key w ≡ None
-      none = tested (bytes_eq w.tag (tag_of (content_cipher key) w.iv (additional_data w) w.ciphertext)) refl
