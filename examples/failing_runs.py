@@ -267,6 +267,13 @@ class World:
     def find(self, kind, event):
         return [r for r in self.keeper.records if (r["is"], r["node"], r["id"]) == (kind, event["node"], event["id"])]
 
+    def delivered(self, at, message):
+        """The number of the record by which the message was delivered."""
+        for number, record in enumerate(self.keeper.records):
+            if (record["is"], record["node"], record["id"], record.get("message")) == ("delivered", at["node"], at["id"], message):
+                return number
+        return None
+
     def context(self, event, refusals):
         """The context and its keys, or a refusal: that there is none, or that it has no keys."""
         if not self.find("opened", event):
@@ -349,9 +356,9 @@ class World:
         context, keys = self.context(at, [unknown, Refused(22, "NO_KEYS")])
         additional = f"{jwe['protected']}.{jwe['aad']}".encode()
         plain = open_sealed(bytes.fromhex(keys["receive"]["request"]["key"]), *[from_base64url(jwe["iv"]), additional, from_base64url(jwe["ciphertext"]), from_base64url(jwe["tag"])])
-        for number, record in enumerate(self.keeper.records):
-            if (record["is"], record["node"], record["id"], record.get("message")) == ("delivered", at["node"], at["id"], meta["messageId"]):
-                raise Refused(25, "REPLAY", detail=str(number), report={**report, "n32fErrorType": "MESSAGE_RECONSTRUCTION_FAILED"})
+        delivered = self.delivered(at, meta["messageId"])
+        if delivered is not None:
+            raise Refused(25, "REPLAY", detail=str(delivered), report={**report, "n32fErrorType": "MESSAGE_RECONSTRUCTION_FAILED"})
         values = json.loads(plain)["dataToEncrypt"]
         mapping = mapping_of(context["policy"], rebuild(block, values))
         for number, entry in enumerate(document.get("modificationsBlock", []), 1):

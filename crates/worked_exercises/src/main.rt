@@ -1,5 +1,5 @@
-//! Worked exercises: the summaries of `exercise 1`, `exercise 4` and `exercise 1000` are this program's stored run, each over
-//! records in memory. It reads nothing.
+//! Worked exercises: the summaries of `exercise 1`, `exercise 4`, `exercise 1000` and `exercise 10000` are this program's stored
+//! run, each over records in memory. It reads nothing.
 #![tactic(auto)]
 
 ghost use Rattle.std.specs.Prelude.{◌≡◌, [], ◌∷◌, IfOk, codes};
@@ -64,7 +64,7 @@ fn exercise(rt: &HostRuntime, messages: &str) -> Status {
 }
 
 fn exercise_all(rt: &HostRuntime) -> Status {
-    for messages in ["1", "4", "1000"] {
+    for messages in ["1", "4", "1000", "10000"] {
         let status = exercise(rt, messages);
         if status != Status::Done {
             return status;
