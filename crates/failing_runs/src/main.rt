@@ -32,14 +32,20 @@ fn print_all(rt: &HostRuntime, input: &[u8]) -> bool {
     let mut start = 0usize;
     for i in 1..input.len() {
         if input[i - 1] == b'\n' && input[i] == b'\n' {
-            if !print_tables(rt, number, &input[start..i]) {
+            let Some(script) = input.get(start..i) else {
+                return false;
+            };
+            if !print_tables(rt, number, script) {
                 return false;
             }
             number = number.saturating_add(1);
             start = i + 1;
         }
     }
-    print_tables(rt, number, &input[start..])
+    match input.get(start..) {
+        Some(script) => print_tables(rt, number, script),
+        None => false,
+    }
 }
 
 // The tables of the scripts, or, with two words, a run of `replay` or `blocks` behind so many allocations.
