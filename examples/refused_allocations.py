@@ -107,12 +107,14 @@ def try_program(program, word, script):
     (status, whole), found = program_outcomes(program, word, script)
     if status != 0:
         sys.exit(f"without a refusal: status {status}")
-    wrong = [k for k, (status, text) in found.items() if status != NO_MEMORY or not whole.startswith(text)]
-    for k in wrong:
+    refused = [k for k, (status, text) in found.items() if status == NO_MEMORY and whole.startswith(text)]
+    complete = [k for k, outcome in found.items() if outcome == (0, whole)]
+    for k in sorted(set(found) - set(refused) - set(complete)):
         print(f"allocation {k}: status {found[k][0]}, {len(found[k][1])} bytes that are {'a' if whole.startswith(found[k][1]) else 'no'} front")
-    fronts = len({text for _, text in found.values()})
-    answers = len(whole.splitlines())
-    print(f"{len(found)} allocations: {len(found) - len(wrong)} refused ended with status {NO_MEMORY}, after {fronts} fronts of {answers} answers; {len(wrong)} did not")
+    wrong = len(found) - len(refused) - len(complete)
+    fronts = len({found[k][1] for k in refused})
+    print(f"{len(found)} allocations: {len(refused)} refused ended with status {NO_MEMORY}, after {fronts} fronts of {len(whole.splitlines())} answers")
+    print(f"{len(complete)} ended with all answers, {wrong} were wrong")
     return 1 if wrong else 0
 
 
