@@ -19,15 +19,17 @@ use Rattle.spec_script.specs.Output.{Answered, Numbered, Output, answers_text, b
 use Rattle.context_store.specs.Stores.{AreRecords, Holds}
 use Rattle.spec_script.specs.Choices.{Meanings}
 use Rattle.replay_world.specs.Outsiders.{Told}
-use Rattle.replay_runs.specs.Outsiders.{Counts, counts, counts_of, meanings_of}
+use Rattle.replay_runs.specs.Outsiders.{Counts, Later, counts, counts_of, meanings_of}
 use Rattle.replay_world.specs.declared.world.World.{World}
 use Rattle.replay_world.specs.Worlds.{TellsRecords, state_of}
 use Rattle.replay_runs.specs.Statuses.{status_of}
 use Rattle.replay_runs.specs.Unfailing.{plain_state, plain_output}
-use Rattle.replay_runs.specs.Replays.{OutsideAnswers, tells_keeper, tells_signer, tells_verifier, RepliesToAll, RepliesToFirst, RepliesInPart, Leaves, OverRecords, IsComplete}
-use Rattle.replay_runs.specs.Lines.{GivesUpLine, IsOfLines}
+use Rattle.replay_runs.specs.Replays.{OutsideAnswers, tells_keeper, tells_signer, tells_verifier, RepliesToAll, RepliesToFirst, RepliesInPart, Leaves, OverRecords, AreHeld, IsComplete}
+use Rattle.replay_runs.specs.Lines.{GivesUpLine}
+use Rattle.replay_runs.specs.Loads.{IsBegun}
 use Rattle.replay_runs.specs.declared.status.Status.{Status}
 use Rattle.replay_runs.proofs.Plain.{is_plain, none_rose}
+use Rattle.replay_runs.proofs.Loaded.{told_any, told_weaker, over_any, renamed, loaded_leaves}
 use Rattle.replay_runs.proofs.Went.{gives_of, went}
 use Rattle.replay_runs.proofs.InPart.{cut_reply, given_reply, unbegun_reply}
 
@@ -40,6 +42,9 @@ Kept {M} outside world gives_up = (a b : M) (n : ℕ) (line : List ℕ) → give
 -- a run begins in a world without nodes, documents and starts
 abbrev Begins : World → List Record → Type 0
 Begins w records = state_of w records ≡ begin records
+
+pub begins_of : (held : Option (List (List ℕ))) (w : World) (records : List Record) → IsBegun held w → Begins w records
+begins_of held w records b = rw (b.sites, b.wire, b.hands) refl
 
 first_of : (means : Meanings) {M : Type 0} (outside : M → Told) (world : M → World) (count : ℕ) (script : List ℕ) (records : List Record) (old new : M) (before after : Option (List ℕ))
     → TellsRecords (outside old).held records → length records ≤ record_limit → meanings_of (outside old).others ≡ Some means → Begins (world old) records
@@ -154,61 +159,49 @@ few_told held stored records holds few t =
 
 -- ---- where source and keeper tell
 
-over_records : (held : Option (List (List ℕ))) (P : List Record → Type 0) → ((records : List Record) → TellsRecords held records → P records) → OverRecords held P
-over_records None P h = tt
-over_records (Some texts) P h = λ records are. h records (record { texts = texts; told = refl; are = are })
-
-pub leaves_told : (means : Meanings) {M : Type 0} (outside : M → Told) (world : M → World) (gives_up : GivesUp M) (first left : Option (List ℕ)) (old new : M) (stored : List Record) (before after : Option (List ℕ)) (e : Ending)
-    → meanings_of (outside old).others ≡ Some means → Holds (outside old).held stored → length stored ≤ record_limit → ((records : List Record) → Begins (world old) records) → Kept outside world gives_up
+leaves_told : (means : Meanings) {M : Type 0} (outside : M → Told) (world : M → World) (gives_up : GivesUp M) (first left : Option (List ℕ)) (old new : M) (before after : Option (List ℕ)) (e : Ending)
+    → meanings_of (outside old).others ≡ Some means → IsBegun (outside old).held (world old) → Kept outside world gives_up
     → IfSome first (λ script. Ends (gives_of outside world) gives_up script left old new before after e)
     → IfSome first (λ script. OverRecords (outside old).held (λ records. Leaves means script left records (outside new).held (counts_of (outside old)) (counts_of (outside new)) before after (status_of e)))
-leaves_told means outside world gives_up None left old new stored before after e is holds few begins kept h = tt
-leaves_told means outside world gives_up (Some script) left old new stored before after e is holds few begins kept h =
-    over_records (outside old).held (λ records. Leaves means script left records (outside new).held (counts_of (outside old)) (counts_of (outside new)) before after (status_of e)) λ records t.
-    leaves_of means outside world gives_up script left records old new before after e t (few_told (outside old).held stored records holds few t) is (begins records) kept h
+leaves_told means outside world gives_up None left old new before after e is begun kept h = tt
+leaves_told means outside world gives_up (Some script) left old new before after e is begun kept h =
+    over_any (outside old).held (λ records. Leaves means script left records (outside new).held (counts_of (outside old)) (counts_of (outside new)) before after (status_of e)) λ records t.
+    leaves_of means outside world gives_up script left records old new before after e t (few_told (outside old).held (world old).store.records records begun.holds begun.few t) is (begins_of (outside old).held (world old) records begun) kept h
 
 pub same_counts : {a b c d e f : ℕ} → a ≡ d → b ≡ e → c ≡ f → counts a b c ≡ counts d e f
 same_counts p q r = rw (p, q, r) refl
 
--- the same, where what the machine left is named otherwise
-pub leaves_lent : (means : Meanings) {M : Type 0} (outside : M → Told) (world : M → World) (gives_up : GivesUp M) (first left : Option (List ℕ)) (old new : M) (stored : List Record) (before after : Option (List ℕ)) (e : Ending) (status : Status) (held' : Option (List (List ℕ))) (faults' : Counts)
-    → meanings_of (outside old).others ≡ Some means → Holds (outside old).held stored → length stored ≤ record_limit → ((records : List Record) → Begins (world old) records) → Kept outside world gives_up
+-- the same, where what the machine left is named otherwise, and faults are counted from before the load
+pub leaves_lent : (means : Meanings) {M : Type 0} (outside : M → Told) (world : M → World) (gives_up : GivesUp M) (first left : Option (List ℕ)) (held : Option (List (List ℕ))) (faults : Counts) (old new : M) (before after : Option (List ℕ)) (e : Ending) (status : Status) (held' : Option (List (List ℕ))) (faults' : Counts)
+    → meanings_of (outside old).others ≡ Some means → IsBegun (outside old).held (world old) → Kept outside world gives_up → (outside old).held ≡ held → Later faults (counts_of (outside old))
     → held' ≡ (outside new).held → faults' ≡ counts_of (outside new) → status ≡ status_of e
     → IfSome first (λ script. Ends (gives_of outside world) gives_up script left old new before after e)
-    → IfSome first (λ script. OverRecords (outside old).held (λ records. Leaves means script left records held' (counts_of (outside old)) faults' before after status))
-leaves_lent means outside world gives_up first left old new stored before after e status held' faults' is holds few begins kept h k s ends =
-    let P : Option (List (List ℕ)) → Type 0 = λ o. IfSome first (λ script. OverRecords (outside old).held (λ records. Leaves means script left records o (counts_of (outside old)) faults' before after status)) in
-    let Q : Counts → Type 0 = λ n. IfSome first (λ script. OverRecords (outside old).held (λ records. Leaves means script left records (outside new).held (counts_of (outside old)) n before after status)) in
-    let R : Status → Type 0 = λ z. IfSome first (λ script. OverRecords (outside old).held (λ records. Leaves means script left records (outside new).held (counts_of (outside old)) (counts_of (outside new)) before after z)) in
-    subst P (sym h) (subst Q (sym k) (subst R (sym s) (leaves_told means outside world gives_up first left old new stored before after e is holds few begins kept ends)))
+    → IfSome first (λ script. OverRecords held (λ records. Leaves means script left records held' faults faults' before after status))
+leaves_lent means outside world gives_up first left held faults old new before after e status held' faults' is begun kept same le h k s ends =
+    renamed (λ o n z. IfSome first (λ script. OverRecords held (λ records. Leaves means script left records o faults n before after z))) h k s
+    (loaded_leaves means first left held (outside old).held (outside new).held faults (counts_of (outside old)) (counts_of (outside new)) before after (status_of e) same le
+    (leaves_told means outside world gives_up first left old new before after e is begun kept ends))
 
--- a world without nodes, documents and starts
-pub begins_of : (w : World) (records : List Record) → w.sites ≡ [] → w.wire ≡ [] → w.hands ≡ [] → state_of w records ≡ begin records
-begins_of w records sites wire hands = rw (sites, wire, hands) refl
+-- ---- completeness
 
--- ---- statuses of the reading of lines
-
-pub of_lines : (e : Ending) (status : Status) → status ≡ status_of e → IsOfLines status
-of_lines e status is = let P : Status → Type 0 = λ z. IsOfLines z in subst P (sym is) (by_ending e)
+-- a run that meets no limit is done, unless memory was refused or source or sink failed
+pub ended_complete : (held : Option (List (List ℕ))) (read_fault write_fault keeper_fault : Type 0) (e : Ending) (status : Status) → status ≡ status_of e → MeetsNoLimit e → (e ≡ ending.ReadFault → read_fault) → (e ≡ ending.WriteFault → write_fault)
+    → IfSome held (λ texts. AreHeld texts → IsComplete read_fault write_fault keeper_fault status)
+ended_complete held read_fault write_fault keeper_fault e status is none r w =
+    let P : Status → Type 0 = λ z. IsComplete read_fault write_fault keeper_fault z in
+    told_any held (λ texts. AreHeld texts → P status) (λ texts told all. subst P (sym is) (by_ending e none r w))
   where
-    by_ending : (e : Ending) → IsOfLines (status_of e)
-    by_ending ending.Done = tt
-    by_ending ending.ReadFault = tt
-    by_ending ending.WriteFault = tt
-    by_ending (ending.LineTooLong n) = tt
-    by_ending ending.ScriptTooLarge = tt
-    by_ending ending.NoMemory = tt
-
-pub complete_told : (first : Option (List ℕ)) (read_fault write_fault : Type 0) (e : Ending) (status : Status) → status ≡ status_of e → (e ≡ ending.ReadFault → read_fault) → (e ≡ ending.WriteFault → write_fault)
-    → IfSome first (λ script. IsWithin script → MeetsNoLimit e)
-    → IfSome first (λ script. IsWithin script → IsComplete read_fault write_fault ⊥ status)
-complete_told None read_fault write_fault e status is r w h = tt
-complete_told (Some script) read_fault write_fault e status is r w h = λ within. let P : Status → Type 0 = λ z. IsComplete read_fault write_fault ⊥ z in subst P (sym is) (by_ending e (h within) r w)
-  where
-    by_ending : (e : Ending) → MeetsNoLimit e → (e ≡ ending.ReadFault → read_fault) → (e ≡ ending.WriteFault → write_fault) → IsComplete read_fault write_fault ⊥ (status_of e)
+    by_ending : (e : Ending) → MeetsNoLimit e → (e ≡ ending.ReadFault → read_fault) → (e ≡ ending.WriteFault → write_fault) → IsComplete read_fault write_fault keeper_fault (status_of e)
     by_ending ending.Done none r w = tt
     by_ending ending.ReadFault none r w = r refl
     by_ending ending.WriteFault none r w = w refl
     by_ending ending.NoMemory none r w = tt
     by_ending (ending.LineTooLong n) none r w = absurd none
     by_ending ending.ScriptTooLarge none r w = absurd none
+
+pub complete_told : (first : Option (List ℕ)) (held : Option (List (List ℕ))) (read_fault write_fault keeper_fault : Type 0) (e : Ending) (status : Status) → status ≡ status_of e → (e ≡ ending.ReadFault → read_fault) → (e ≡ ending.WriteFault → write_fault)
+    → IfSome first (λ script. IsWithin script → MeetsNoLimit e)
+    → IfSome first (λ script. IsWithin script → IfSome held (λ texts. AreHeld texts → IsComplete read_fault write_fault keeper_fault status))
+complete_told first held read_fault write_fault keeper_fault e status is r w h =
+    told_weaker first (λ script. IsWithin script → MeetsNoLimit e) (λ script. IsWithin script → IfSome held (λ texts. AreHeld texts → IsComplete read_fault write_fault keeper_fault status))
+    (λ script meets within. ended_complete held read_fault write_fault keeper_fault e status is (meets within) r w) h

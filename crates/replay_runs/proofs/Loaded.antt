@@ -8,23 +8,25 @@ use Rattle.std.proofs.lemmas.List.{take-append-drop, length-take-le}
 use Rattle.std.proofs.lemmas.List.Elements.{All-nil}
 use Rattle.std.proofs.lemmas.Option.{slice_get_within}
 use Rattle.n32_values.proofs.Trees.{take_at}
-use Rattle.n32_outside.specs.Contents.{Stays}
 use Rattle.script_loop.specs.Limits.{script_limit}
 use Rattle.spec_documents.specs.Lines.{lines_of, ended_lines, is_blank}
-use Rattle.script_loop.specs.Lines.{IsShort, IsWithin}
+use Rattle.script_loop.specs.Lines.{IsShort}
 use Rattle.spec_records.specs.Records.{Record}
 use Rattle.context_records.specs.Reading.{ReadsRecord}
 use Rattle.spec_script.specs.Steps.{State}
 use Rattle.spec_script.specs.Answers.{answer_text}
 use Rattle.spec_script.specs.Output.{Answered, Numbered, Output, answers_text, begin}
-use Rattle.context_store.specs.Stores.{AreRecords, HasNoBad, IsNoRecord, IsFirstBad}
+use Rattle.context_store.specs.Stores.{AreRecords, HasNoBad, IsNoRecord, IsFirstBad, NamesBad}
+use Rattle.context_store.specs.declared.faults.OpenFault.{OpenFault}
+use Rattle.context_store.specs.declared.faults.OpenFault.TheVariants as loads
 use Rattle.context_store.proofs.Kept.{has_no_bad}
 use Rattle.spec_script.specs.Choices.{Meanings}
 use Rattle.replay_runs.specs.Outsiders.{Counts, Later}
 use Rattle.replay_world.specs.Worlds.{TellsRecords}
+use Rattle.replay_runs.specs.Statuses.{load_status}
 use Rattle.replay_runs.specs.Unfailing.{plain_answers, plain_state}
-use Rattle.replay_runs.specs.Replays.{OutsideAnswers, RepliesToAll, RepliesToFirst, CutsReply, LacksMemory, RepliesInPart, Leaves, WritesFront, OverRecords, AreHeld}
-use Rattle.replay_runs.specs.Loads.{IsRefused, Untouched}
+use Rattle.replay_runs.specs.Replays.{OutsideAnswers, RepliesToAll, RepliesToFirst, CutsReply, LacksMemory, RepliesInPart, Leaves, WritesFront, OverRecords, AreHeld, IsComplete}
+use Rattle.replay_runs.specs.Loads.{IsRefused}
 use Rattle.replay_runs.specs.declared.status.Status.{Status}
 use Rattle.replay_runs.specs.declared.status.Status.TheVariants as status
 use Rattle.replay_runs.proofs.Plain.{answered_then, into_spoken, text-append, plain_answered}
@@ -115,6 +117,20 @@ earlier means script left records held first faults faults' before after (status
 earlier means script left records held first faults faults' before after status.KeeperFault le e = e
 earlier means script left records held first faults faults' before after status.Words le e = absurd e
 
+-- ---- what is told
+
+pub told_any : {A : Type 0} (o : Option A) (P : A → Type 0) → ((x : A) → o ≡ Some x → P x) → IfSome o P
+told_any None P f = tt
+told_any (Some x) P f = f x refl
+
+pub told_weaker : {A : Type 0} (o : Option A) (P Q : A → Type 0) → ((x : A) → P x → Q x) → IfSome o P → IfSome o Q
+told_weaker None P Q f h = tt
+told_weaker (Some x) P Q f h = f x h
+
+-- what is left, in other names
+pub renamed : {A B C : Type 0} (P : A → B → C → Type 0) {a x : A} {b y : B} {c z : C} → a ≡ x → b ≡ y → c ≡ z → P x y z → P a b c
+renamed P h k s e = rw (h, k, s) e
+
 pub over_weaker : (held : Option (List (List ℕ))) (P Q : List Record → Type 0) → ((records : List Record) → P records → Q records) → OverRecords held P → OverRecords held Q
 over_weaker None P Q f h = tt
 over_weaker (Some texts) P Q f h = λ records are. f records (h records are)
@@ -148,22 +164,18 @@ nothing_replied means script records held faults faults' written t le = record {
   written = Appends-nil written;
 }
 
-pub memory_leaves : (means : Meanings) (first : Option (List ℕ)) (held held' : Option (List (List ℕ))) (faults faults' : Counts) (written : Option (List ℕ)) → held' ≡ held → Later faults faults'
-    → IfSome first (λ script. OverRecords held (λ records. Leaves means script first records held' faults faults' written written status.NoMemory))
-memory_leaves means None held held' faults faults' written same le = tt
-memory_leaves means (Some script) held held' faults faults' written same le =
-    over_any held (λ records. Leaves means script (Some script) records held' faults faults' written written status.NoMemory)
-    (λ records t. nothing_replied means script records held' faults faults' written (subst (λ (o : Option (List (List ℕ))). TellsRecords o records) (sym same) t) le)
+load_leaves : (means : Meanings) (script : List ℕ) (records : List Record) (held : Option (List (List ℕ))) (faults faults' : Counts) (written : Option (List ℕ)) (fault : OpenFault) → TellsRecords held records → Later faults faults'
+    → Leaves means script (Some script) records held faults faults' written written (load_status fault)
+load_leaves means script records held faults faults' written (loads.Journal k) t le = (refl, t)
+load_leaves means script records held faults faults' written loads.Keeper t le = (refl, t)
+load_leaves means script records held faults faults' written loads.NoMemory t le = nothing_replied means script records held faults faults' written t le
 
--- ---- where signer and verifier tell
-
-pub means_any : (o : Option Meanings) (P : Meanings → Type 0) → ((means : Meanings) → o ≡ Some means → P means) → IfSome o P
-means_any None P f = tt
-means_any (Some means) P f = f means refl
-
-pub means_on : (o : Option Meanings) (P Q : Meanings → Type 0) → ((means : Meanings) → P means → Q means) → IfSome o P → IfSome o Q
-means_on None P Q f h = tt
-means_on (Some means) P Q f h = f means h
+pub failed_leaves : (means : Meanings) (first : Option (List ℕ)) (held held' : Option (List (List ℕ))) (faults faults' : Counts) (written : Option (List ℕ)) (fault : OpenFault) (s : Status) → s ≡ load_status fault → held' ≡ held → Later faults faults'
+    → IfSome first (λ script. OverRecords held (λ records. Leaves means script first records held' faults faults' written written s))
+failed_leaves means None held held' faults faults' written fault s is same le = tt
+failed_leaves means (Some script) held held' faults faults' written fault s is same le =
+    over_any held (λ records. Leaves means script (Some script) records held' faults faults' written written s)
+    (λ records t. renamed (λ o n z. Leaves means script (Some script) records o faults n written written z) same refl is (load_leaves means script records held faults faults' written fault t le))
 
 -- ---- a front of an output
 
@@ -266,18 +278,14 @@ front_of means script left records held faults faults' before after (status.Jour
 front_of means script left records held faults faults' before after status.KeeperFault e = front_of_none means script records before after e.0
 front_of means script left records held faults faults' before after status.Words e = absurd e
 
-pub front_told : (means : Meanings) (first left : Option (List ℕ)) (held held' : Option (List (List ℕ))) (faults faults' : Counts) (before after : Option (List ℕ)) (s : Status)
-    → IfSome first (λ script. OverRecords held (λ records. Leaves means script left records held' faults faults' before after s))
-    → IfSome first (λ script. OverRecords held (λ records. WritesFront means script records before after))
-front_told means None left held held' faults faults' before after s e = tt
-front_told means (Some script) left held held' faults faults' before after s e =
-    over_weaker held (λ records. Leaves means script left records held' faults faults' before after s) (λ records. WritesFront means script records before after)
-    (λ records. front_of means script left records held' faults faults' before after s) e
-
--- nothing was written
-pub none_told : (means : Meanings) (first : Option (List ℕ)) (held : Option (List (List ℕ))) (written : Option (List ℕ)) → IfSome first (λ script. OverRecords held (λ records. WritesFront means script records written written))
-none_told means None held written = tt
-none_told means (Some script) held written = over_any held (λ records. WritesFront means script records written written) (λ records t. front_of_none means script records written written refl)
+pub front_told : (means : Option Meanings) (first left : Option (List ℕ)) (held held' : Option (List (List ℕ))) (faults faults' : Counts) (before after : Option (List ℕ)) (s : Status)
+    → IfSome means (λ m. IfSome first (λ script. OverRecords held (λ records. Leaves m script left records held' faults faults' before after s)))
+    → IfSome means (λ m. IfSome first (λ script. OverRecords held (λ records. WritesFront m script records before after)))
+front_told means first left held held' faults faults' before after s e =
+    told_weaker means (λ m. IfSome first (λ script. OverRecords held (λ records. Leaves m script left records held' faults faults' before after s))) (λ m. IfSome first (λ script. OverRecords held (λ records. WritesFront m script records before after)))
+    (λ m. told_weaker first (λ script. OverRecords held (λ records. Leaves m script left records held' faults faults' before after s)) (λ script. OverRecords held (λ records. WritesFront m script records before after))
+    (λ script. over_weaker held (λ records. Leaves m script left records held' faults faults' before after s) (λ records. WritesFront m script records before after)
+    (λ records. front_of m script left records held' faults faults' before after s))) e
 
 -- ---- bad records
 
@@ -301,18 +309,25 @@ pub bad_none : (held loaded : Option (List (List ℕ))) (P : ℕ → Type 0) →
 bad_none None loaded P same sound = tt
 bad_none (Some texts) loaded P same sound = λ k bad. let Q : Option (List (List ℕ)) → Type 0 = λ o. HasNoBad o in absurd (subst Q same sound k bad)
 
-pub bad_named : {S O : Type 0} (held now : Option (List (List ℕ))) (j : ℕ) (source : S) (sink : O) → Stays held now → IfSome held (λ texts. IsFirstBad texts j)
-    → IfSome held (λ texts. (k : ℕ) → IsFirstBad texts k → IsRefused k (status.Journal j) × Untouched source source sink sink held now)
-bad_named None now j source sink same named = tt
-bad_named (Some texts) now j source sink same named = λ k bad. (one_bad texts j k named bad, record { source_stays = refl; sink_stays = refl; held_stays = same })
+load_refused : (texts : List (List ℕ)) (k : ℕ) (fault : OpenFault) → NamesBad (Some texts) fault → IsFirstBad texts k → IsRefused k (load_status fault)
+load_refused texts k (loads.Journal j) named bad = one_bad texts j k named bad
+load_refused texts k loads.Keeper named bad = tt
+load_refused texts k loads.NoMemory named bad = tt
+
+-- the load failed
+pub failed_bad : (held : Option (List (List ℕ))) (fault : OpenFault) (s : Status) (P : Type 0) → s ≡ load_status fault → NamesBad held fault → P → IfSome held (λ texts. (k : ℕ) → IsFirstBad texts k → IsRefused k s × P)
+failed_bad None fault s P is named p = tt
+failed_bad (Some texts) fault s P is named p = λ k bad. (subst (λ (z : Status). IsRefused k z) (sym is) (load_refused texts k fault named bad), p)
 
 -- ---- completeness
 
 -- where a text is bad not all are held
-none_held : (held : Option (List (List ℕ))) (k : ℕ) (P : Type 0) → IfSome held (λ texts. IsFirstBad texts k) → IfSome held (λ texts. AreHeld texts → P)
-none_held None k P named = tt
-none_held (Some texts) k P named = λ h. absurd (has_no_bad (Some texts) h.records h.are h.few k named)
+load_complete : (texts : List (List ℕ)) (read_fault write_fault keeper_fault : Type 0) (fault : OpenFault) → NamesBad (Some texts) fault → (fault ≡ loads.Keeper → keeper_fault) → AreHeld texts → IsComplete read_fault write_fault keeper_fault (load_status fault)
+load_complete texts read_fault write_fault keeper_fault (loads.Journal k) named cause h = has_no_bad (Some texts) h.records h.are h.few k named
+load_complete texts read_fault write_fault keeper_fault loads.Keeper named cause h = cause refl
+load_complete texts read_fault write_fault keeper_fault loads.NoMemory named cause h = tt
 
-pub journal_complete : (first : Option (List ℕ)) (held : Option (List (List ℕ))) (k : ℕ) (P : Type 0) → IfSome held (λ texts. IsFirstBad texts k) → IfSome first (λ script. IsWithin script → IfSome held (λ texts. AreHeld texts → P))
-journal_complete None held k P named = tt
-journal_complete (Some script) held k P named = λ within. none_held held k P named
+pub failed_complete : (held : Option (List (List ℕ))) (read_fault write_fault keeper_fault : Type 0) (fault : OpenFault) (s : Status) → s ≡ load_status fault → NamesBad held fault → (fault ≡ loads.Keeper → keeper_fault)
+    → IfSome held (λ texts. AreHeld texts → IsComplete read_fault write_fault keeper_fault s)
+failed_complete None read_fault write_fault keeper_fault fault s is named cause = tt
+failed_complete (Some texts) read_fault write_fault keeper_fault fault s is named cause = λ h. subst (λ (z : Status). IsComplete read_fault write_fault keeper_fault z) (sym is) (load_complete texts read_fault write_fault keeper_fault fault named cause h)

@@ -1,5 +1,5 @@
 -- What a run of `exercise N` leaves, by its status: the summary of an output for its script.
-use Rattle.std.specs.Prelude.{◌≡◌, ◌≢◌, ◌⊎◌, ⊤, ℕ, List, ◌++◌, map, take, Option, IfSome}
+use Rattle.std.specs.Prelude.{◌≡◌, ◌≢◌, ◌⊎◌, ℕ, List, ◌++◌, map, take, Option, IfSome}
 use Rattle.std.specs.Io.KnownBytes.{Appends}
 use Rattle.n32_outside.specs.Causes.{Rose}
 use Rattle.n32_outside.specs.Contents.{Stays}
@@ -95,18 +95,6 @@ pub record WritesFront (means : Meanings) (messages : ℕ) (records : List Recor
 pub record Unwritten {O : Type 0} (sink sink' : O) (held held' : Option (List (List ℕ))) : Type 0 where
   pub sink_stays : sink' ≡ sink
   pub held_stays : Stays held held'
-
--- a status of the playing of the script
-abbrev pub IsOfExercise : Status → Type 0
-IsOfExercise status.Done = ⊤
-IsOfExercise status.WriteFault = ⊤
-IsOfExercise status.NoMemory = ⊤
-IsOfExercise (status.Journal k) = ⊥
-IsOfExercise status.KeeperFault = ⊥
-IsOfExercise status.Words = ⊥
-IsOfExercise status.ReadFault = ⊥
-IsOfExercise (status.LineTooLong n) = ⊥
-IsOfExercise status.ScriptTooLarge = ⊥
 
 -- ---- the whole run
 

@@ -1,13 +1,11 @@
--- What the machine of `replay`, which was lent a world, a keeper, a signer, a verifier and a screen, gives and keeps from line to line, and the statuses that its lines may come to.
-use Rattle.std.specs.Prelude.{◌≡◌, ⊤, ℕ, ◌≤◌, List, refl}
+-- What the machine of `replay`, which was lent a world, a keeper, a signer, a verifier and a screen, gives and keeps from line to line.
+use Rattle.std.specs.Prelude.{◌≡◌, ℕ, ◌≤◌, List, refl}
 use Rattle.std.proofs.Common.{◌∙◌}
 use Rattle.std.proofs.Math.Nat.{le_refl, le_trans}
 use Rattle.replay_world.specs.declared.world.World.{World}
 use Rattle.replay_world.specs.Worlds.{Steps}
 use Rattle.replay_world.specs.Stepping.{GivesUp}
 use Rattle.replay_world.specs.Outsiders.{Outsiders, Told, OthersStay, Acted, line_steps}
-use Rattle.replay_runs.specs.declared.status.Status.{Status}
-use Rattle.replay_runs.specs.declared.status.Status.TheVariants as status
 
 -- line n is answered over the records that are held, the keeper's count hasn't fallen, and the others stay
 pub record AnswersLine (before after_ : Told) (old new : World) (number : ℕ) (line text : List ℕ) : Type 0 where
@@ -62,15 +60,3 @@ later_trans a b c d e f u v w i j k x y z p q = record {
   later = le_trans p.later q.later;
   others_stay = others_trans x y z p.others_stay q.others_stay;
 }
-
--- a status of the reading of lines
-abbrev pub IsOfLines : Status → Type 0
-IsOfLines status.Done = ⊤
-IsOfLines status.ReadFault = ⊤
-IsOfLines status.WriteFault = ⊤
-IsOfLines (status.LineTooLong n) = ⊤
-IsOfLines status.ScriptTooLarge = ⊤
-IsOfLines status.NoMemory = ⊤
-IsOfLines (status.Journal k) = ⊥
-IsOfLines status.KeeperFault = ⊥
-IsOfLines status.Words = ⊥

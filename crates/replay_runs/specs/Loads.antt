@@ -1,9 +1,21 @@
--- The load at the start of `replay`: how a text that is no record ends the run, before anything is read or written.
-use Rattle.std.specs.Prelude.{◌≡◌, ⊤, ℕ, List, Option, IfSome}
+-- The load at the start of `replay` and of `exercise`: the world that it makes, and how a text that is no record ends the run, before anything is read or written.
+use Rattle.std.specs.Prelude.{◌≡◌, ◌≤◌, ⊤, ℕ, List, [], length, Option, IfSome}
 use Rattle.n32_outside.specs.Contents.{Stays}
-use Rattle.context_store.specs.Stores.{IsFirstBad}
+use Rattle.spec_records.specs.Records.{record_limit}
+use Rattle.context_store.specs.Stores.{Holds, IsFirstBad}
+use Rattle.replay_world.specs.Worlds.{IsReady}
+use Rattle.replay_world.specs.declared.world.World.{World}
 use Rattle.replay_runs.specs.declared.status.Status.{Status}
 use Rattle.replay_runs.specs.declared.status.Status.TheVariants as status
+
+-- a world without nodes, documents and starts, over the records that are held
+pub record IsBegun (held : Option (List (List ℕ))) (w : World) : Type 0 where
+  pub ready : IsReady held w
+  pub sites : w.sites ≡ []
+  pub wire : w.wire ≡ []
+  pub hands : w.hands ≡ []
+  pub holds : Holds held w.store.records
+  pub few : length w.store.records ≤ record_limit
 
 -- source and sink are as they were, and the same is held
 pub record Untouched {S O : Type 0} (source source' : S) (sink sink' : O) (held held' : Option (List (List ℕ))) : Type 0 where

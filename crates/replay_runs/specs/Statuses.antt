@@ -3,6 +3,8 @@ use Rattle.std.specs.Prelude.{ℕ, List, [], ◌++◌, codes}
 use Rattle.std.specs.Fmt.{decimal}
 use Rattle.script_loop.specs.declared.ending.Ending.{Ending}
 use Rattle.script_loop.specs.declared.ending.Ending.TheVariants as endings
+use Rattle.context_store.specs.declared.faults.OpenFault.{OpenFault}
+use Rattle.context_store.specs.declared.faults.OpenFault.TheVariants as loads
 use Rattle.replay_runs.specs.declared.status.Status.{Status}
 use Rattle.replay_runs.specs.declared.status.Status.TheVariants.{Done, Words, ReadFault, WriteFault, LineTooLong, ScriptTooLarge, Journal, KeeperFault, NoMemory}
 
@@ -38,3 +40,9 @@ status_of endings.WriteFault = WriteFault
 status_of (endings.LineTooLong n) = LineTooLong n
 status_of endings.ScriptTooLarge = ScriptTooLarge
 status_of endings.NoMemory = NoMemory
+
+-- the status of a load of the records that failed
+abbrev pub load_status : OpenFault → Status
+load_status (loads.Journal k) = Journal k
+load_status loads.Keeper = KeeperFault
+load_status loads.NoMemory = NoMemory

@@ -1,69 +1,21 @@
-ghost use Rattle.std.specs.Prelude.{◌≡◌, ◌≢◌, ◌≤◌, ℕ, [], length, IfSome};
+ghost use Rattle.std.specs.Prelude.{◌≡◌, ◌≢◌, ◌≤◌, ℕ, IfSome};
 ghost use Rattle.n32_outside.specs.Causes.{Rose};
-ghost use Rattle.spec_records.specs.Records.{record_limit};
-ghost use Rattle.context_store.specs.Stores.{Holds, IsFirstBad};
+ghost use Rattle.context_store.specs.Stores.{IsFirstBad};
 ghost use Rattle.message_screens.specs.Screening.{IsScreen, rule_of};
-ghost use Rattle.replay_world.specs.Worlds.{IsReady};
 ghost use Rattle.replay_world.specs.Outsiders.{OthersStay, outsiders};
 ghost use Rattle.replay_runs.specs.Outsiders.{counts, meanings_told};
 ghost use Rattle.replay_runs.specs.Replays.{OverRecords, AreHeld, IsComplete};
 ghost use Rattle.replay_runs.specs.Loads.{IsRefused, NamesBad, AtLoad};
-ghost use Rattle.replay_runs.specs.Exercises.{Leaves, WritesFront, Unwritten, IsOfExercise};
+ghost use Rattle.replay_runs.specs.Exercises.{Leaves, WritesFront, Unwritten};
 
+use crate::loading::begun_world;
 use crate::replay::Events;
 use crate::status::Status;
-use context_store::OpenFault;
 use http_message::Message;
 use message_screens::{Screen, ScreenRule};
 use n32_outside::{Keeper, Signer, Sink, Verifier};
 use n32_values::PlmnId;
-use replay_world::{World, load_world, new_world};
 use std::alloc::Global;
-
-// Plays the script in a world whose records were read, and which has no node and no document yet.
-fn play_script<
-    O: Sink,
-    K: Keeper,
-    G: Signer,
-    V: Verifier,
-    R: ScreenRule,
-    F: Fn(&Message, &PlmnId) -> bool,
->(
-    alloc: Global,
-    messages: u32,
-    sink: &mut O,
-    keeper: &mut K,
-    signer: &mut G,
-    verifier: &mut V,
-    screen: &Screen<F, R>,
-    world: &mut World,
-) -> Status
-    requires ready { IsReady (K.held keeper.old) world.old }
-    requires follows { IsScreen F.Fn R.passes screen.now }
-    requires sites { world.old.sites ≡ [] }
-    requires wire { world.old.wire ≡ [] }
-    requires hands { world.old.hands ≡ [] }
-    requires held { Holds (K.held keeper.old) world.old.store.records }
-    requires few { length world.old.store.records ≤ record_limit }
-    ensures summary { IfSome (meanings_told (G.algorithm signer.old) (G.meaning signer.old) (V.meaning verifier.old) (R.passes (rule_of screen.now))) (λ means. OverRecords (K.held keeper.old) (λ records.
-        Leaves means messages records (K.held keeper.new) (counts (K.faults keeper.old) (G.faults signer.old) (V.faults verifier.old)) (counts (K.faults keeper.new) (G.faults signer.new) (V.faults verifier.new))
-        (O.written sink.old) (O.written sink.new) result)) }
-    ensures kind { IsOfExercise result }
-    ensures write_fault { result ≡ Status.WriteFault → Rose (O.faults sink.old) (O.faults sink.new) }
-    ensures writing { O.faults sink.old ≤ O.faults sink.new }
-    ensures keeping { K.faults keeper.old ≤ K.faults keeper.new }
-    ensures others { OthersStay (outsiders (G.algorithm signer.old) (G.meaning signer.old) (G.faults signer.old) (V.meaning verifier.old) (V.faults verifier.old) (R.passes (rule_of screen.now)))
-        (outsiders (G.algorithm signer.new) (G.meaning signer.new) (G.faults signer.new) (V.meaning verifier.new) (V.faults verifier.new) (R.passes (rule_of screen.now))) }
-{
-    let mut machine = Events {
-        world,
-        keeper,
-        signer,
-        verifier,
-        screen,
-    };
-    Status::from(exercise_word::run(alloc, messages, sink, &mut machine))
-}
 
 /// Reads the records that the keeper holds, plays the script of `exercise N` over them, and writes the summary of its answers.
 pub(crate) fn exercise<
@@ -103,13 +55,16 @@ pub(crate) fn exercise<
         (outsiders (G.algorithm signer.new) (G.meaning signer.new) (G.faults signer.new) (V.meaning verifier.new) (V.faults verifier.new) (R.passes (rule_of screen.now))) }
     ensures named { result ≢ Status.Words }
 {
-    let mut world = new_world(alloc);
-    match load_world(alloc, &mut world, keeper) {
-        Ok(()) => play_script(
-            alloc, messages, sink, keeper, signer, verifier, screen, &mut world,
-        ),
-        Err(OpenFault::Journal(number)) => Status::Journal(number),
-        Err(OpenFault::Keeper) => Status::KeeperFault,
-        Err(OpenFault::NoMemory) => Status::NoMemory,
-    }
+    let mut world = match begun_world(alloc, keeper) {
+        Ok(world) => world,
+        Err(fault) => return Status::from(fault),
+    };
+    let mut machine = Events {
+        world: &mut world,
+        keeper,
+        signer,
+        verifier,
+        screen,
+    };
+    Status::from(exercise_word::run(alloc, messages, sink, &mut machine))
 }

@@ -7,6 +7,7 @@
 mod command;
 mod exercise;
 pub mod laws;
+mod loading;
 mod replay;
 mod running;
 mod status;

@@ -1,25 +1,22 @@
-ghost use Rattle.std.specs.Prelude.{◌≡◌, ◌≢◌, ◌≤◌, ◌+◌, ℕ, List, [], length, IfSome};
+ghost use Rattle.std.specs.Prelude.{◌≡◌, ◌≢◌, ◌≤◌, ◌+◌, ℕ, List, length, IfSome};
 ghost use Rattle.std.specs.Io.KnownBytes.{Consumes};
 ghost use Rattle.n32_outside.specs.Causes.{Rose};
 ghost use Rattle.script_loop.specs.Limits.{script_limit};
 ghost use Rattle.script_loop.specs.Lines.{IsWithin};
-ghost use Rattle.spec_records.specs.Records.{record_limit};
-ghost use Rattle.context_store.specs.Stores.{Holds, IsFirstBad};
+ghost use Rattle.context_store.specs.Stores.{IsFirstBad};
 ghost use Rattle.message_screens.specs.Screening.{IsScreen, rule_of};
 ghost use Rattle.replay_world.specs.Outsiders.{OthersStay, outsiders};
-ghost use Rattle.replay_world.specs.Worlds.{IsReady};
 ghost use Rattle.replay_runs.specs.Outsiders.{counts, meanings_told};
 ghost use Rattle.replay_runs.specs.Replays.{Leaves, WritesFront, OverRecords, AreHeld, IsComplete};
 ghost use Rattle.replay_runs.specs.Loads.{IsRefused, NamesBad, AtLoad, Untouched};
-ghost use Rattle.replay_runs.specs.Lines.{IsOfLines};
 
+use crate::loading::begun_world;
 use crate::status::Status;
-use context_store::OpenFault;
 use http_message::Message;
 use message_screens::{Screen, ScreenRule};
 use n32_outside::{Keeper, Signer, Sink, Source, Verifier};
 use n32_values::{Bytes, NoMemory, PlmnId};
-use replay_world::{World, load_world, new_world, step};
+use replay_world::{World, step};
 use script_loop::Machine;
 use std::alloc::Global;
 
@@ -101,58 +98,6 @@ impl<
     }
 }
 
-// Answers each line of the script in a world whose records were read, and which has no node, no document and no
-// start of a handshake yet.
-fn replay_lines<
-    S: Source,
-    O: Sink,
-    K: Keeper,
-    G: Signer,
-    V: Verifier,
-    R: ScreenRule,
-    F: Fn(&Message, &PlmnId) -> bool,
->(
-    alloc: Global,
-    source: &mut S,
-    sink: &mut O,
-    keeper: &mut K,
-    signer: &mut G,
-    verifier: &mut V,
-    screen: &Screen<F, R>,
-    world: &mut World,
-) -> Status
-    requires ready { IsReady (K.held keeper.old) world.old }
-    requires follows { IsScreen F.Fn R.passes screen.now }
-    requires sites { world.old.sites ≡ [] }
-    requires wire { world.old.wire ≡ [] }
-    requires hands { world.old.hands ≡ [] }
-    requires held { Holds (K.held keeper.old) world.old.store.records }
-    requires few { length world.old.store.records ≤ record_limit }
-    ensures theorem { IfSome (meanings_told (G.algorithm signer.old) (G.meaning signer.old) (V.meaning verifier.old) (R.passes (rule_of screen.now))) (λ means. IfSome (S.left source.old) (λ script. OverRecords (K.held keeper.old) (λ records.
-        Leaves means script (S.left source.new) records (K.held keeper.new) (counts (K.faults keeper.old) (G.faults signer.old) (V.faults verifier.old)) (counts (K.faults keeper.new) (G.faults signer.new) (V.faults verifier.new))
-        (O.written sink.old) (O.written sink.new) result))) }
-    ensures complete { IfSome (S.left source.old) (λ script. IsWithin script
-        → IsComplete (Rose (S.faults source.old) (S.faults source.new)) (Rose (O.faults sink.old) (O.faults sink.new)) ⊥ result) }
-    ensures kind { IsOfLines result }
-    ensures taken { (bytes : List ℕ) × (length bytes ≤ script_limit + 1) × Consumes (S.left source.old) (S.left source.new) bytes }
-    ensures read_fault { result ≡ Status.ReadFault → Rose (S.faults source.old) (S.faults source.new) }
-    ensures write_fault { result ≡ Status.WriteFault → Rose (O.faults sink.old) (O.faults sink.new) }
-    ensures reading { S.faults source.old ≤ S.faults source.new }
-    ensures writing { O.faults sink.old ≤ O.faults sink.new }
-    ensures keeping { K.faults keeper.old ≤ K.faults keeper.new }
-    ensures others { OthersStay (outsiders (G.algorithm signer.old) (G.meaning signer.old) (G.faults signer.old) (V.meaning verifier.old) (V.faults verifier.old) (R.passes (rule_of screen.now)))
-        (outsiders (G.algorithm signer.new) (G.meaning signer.new) (G.faults signer.new) (V.meaning verifier.new) (V.faults verifier.new) (R.passes (rule_of screen.now))) }
-{
-    let mut machine = Events {
-        world,
-        keeper,
-        signer,
-        verifier,
-        screen,
-    };
-    Status::from(script_loop::run(alloc, source, sink, &mut machine))
-}
-
 /// Reads the records that the keeper holds, and then answers the events of the source's script, line by line.
 pub(crate) fn replay<
     S: Source,
@@ -195,13 +140,16 @@ pub(crate) fn replay<
         (outsiders (G.algorithm signer.new) (G.meaning signer.new) (G.faults signer.new) (V.meaning verifier.new) (V.faults verifier.new) (R.passes (rule_of screen.now))) }
     ensures named { result ≢ Status.Words }
 {
-    let mut world = new_world(alloc);
-    match load_world(alloc, &mut world, keeper) {
-        Ok(()) => replay_lines(
-            alloc, source, sink, keeper, signer, verifier, screen, &mut world,
-        ),
-        Err(OpenFault::Journal(number)) => Status::Journal(number),
-        Err(OpenFault::Keeper) => Status::KeeperFault,
-        Err(OpenFault::NoMemory) => Status::NoMemory,
-    }
+    let mut world = match begun_world(alloc, keeper) {
+        Ok(world) => world,
+        Err(fault) => return Status::from(fault),
+    };
+    let mut machine = Events {
+        world: &mut world,
+        keeper,
+        signer,
+        verifier,
+        screen,
+    };
+    Status::from(script_loop::run(alloc, source, sink, &mut machine))
 }

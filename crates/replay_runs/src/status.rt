@@ -1,5 +1,6 @@
 ghost use Rattle.std.specs.Prelude.{◌≡◌};
 
+use context_store::OpenFault;
 use script_loop::Ending;
 use std::fmt;
 
@@ -62,6 +63,21 @@ impl From<Ending> for Status {
             Ending::LineTooLong(number) => Status::LineTooLong(number),
             Ending::ScriptTooLarge => Status::ScriptTooLarge,
             Ending::NoMemory => Status::NoMemory,
+        }
+    }
+}
+
+impl From<OpenFault> for Status {
+    ghost use Rattle.std.specs.Prelude.{◌≡◌};
+    ghost use Rattle.replay_runs.specs.Statuses.{load_status};
+
+    ghost from_gives = { λ fault status. status ≡ load_status fault };
+
+    fn from(fault: OpenFault) -> Status {
+        match fault {
+            OpenFault::Journal(number) => Status::Journal(number),
+            OpenFault::Keeper => Status::KeeperFault,
+            OpenFault::NoMemory => Status::NoMemory,
         }
     }
 }
