@@ -9,7 +9,7 @@ ghost use Rattle.n32_values.specs.View.{tree_of};
 ghost use Rattle.block_forms.specs.Metadata.{meta_view, texts_view, lower_ids, meta_in, meta_node_in, RefusesMeta};
 
 use crate::exact::three_members;
-use doc_forms::{is_id, is_node_name, put_text};
+use doc_forms::{is_id, is_node_name, put, put_text};
 use n32_values::{Doc, NoMemory, Node, NodeMap, Text};
 use std::alloc::Global;
 
@@ -74,22 +74,15 @@ fn are_ids(context: &str, message: &str) -> bool
     is_id(context) && is_id(message)
 }
 
-fn lower(alloc: Global, text: &Text) -> Result<Text, NoMemory>
-    ensures { IfOk result (λ t. t ≡ texts.lower text.now) }
-{
-    let text = text.as_str().to_ascii_lowercase(alloc)?;
-    Ok(Text::from_string(text))
-}
-
 /// The object of a `metaData`, with its ids in lower case.
 pub fn meta_node(alloc: Global, meta: &Meta) -> Result<Node, NoMemory>
     ensures { IfOk result (λ n. tree_of n ≡ meta_tree (lower_ids (meta_view meta.now))) }
 {
-    let context = lower(alloc, &meta.context)?;
-    let message = lower(alloc, &meta.message)?;
-    let mut map = NodeMap::new(alloc);
-    put_text(alloc, &mut map, "n32fContextId", context.as_str())?;
-    put_text(alloc, &mut map, "messageId", message.as_str())?;
+    let context = Text::lowered(alloc, meta.context.as_str())?;
+    let message = Text::lowered(alloc, meta.message.as_str())?;
+    let mut map = NodeMap::with_capacity(alloc, 3)?;
+    put(alloc, &mut map, "n32fContextId", Node::Words(context))?;
+    put(alloc, &mut map, "messageId", Node::Words(message))?;
     put_text(alloc, &mut map, "authorizedIpxId", meta.ipx.as_str())?;
     Ok(Node::Members(map))
 }

@@ -15,7 +15,7 @@ use json_patch6902::{ApplyFault, Op, apply};
 use n32_values::{Doc, Node, is_longer, is_same_doc};
 use std::alloc::Global;
 
-const MAX_BLOCK_BYTES: u64 = 4_194_304;
+const MAX_BLOCK_BYTES: u32 = 4_194_304;
 
 fn is_too_large(doc: &Doc) -> bool
     ensures { result ≡ not (nat_le (length (compact_text doc.now)) 4_194_304) }

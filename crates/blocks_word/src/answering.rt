@@ -9,10 +9,10 @@ ghost use Rattle.script_lines.specs.Unanswered.{told_refusal};
 
 use doc_forms::put;
 use http_message::Message;
-use n32_values::{Bytes, NoMemory, Node, NodeMap, Text, Whole, doc_text};
+use n32_values::{Bytes, NoMemory, Node, NodeMap, ReadingRoom, Text, Whole, doc_text};
 use policy_tables::Policy;
 use reformat_blocks::{Meta, Split, SplitFault, split};
-use script_lines::{Refusal, Unanswered, read_line, refusal_text, take_line_message};
+use script_lines::{Refusal, Unanswered, read_line_in, refusal_text, take_line_message};
 use std::alloc::Global;
 
 // The metadata of no context, no message and no intermediary.
@@ -41,10 +41,10 @@ fn split_message(alloc: Global, message: &Message) -> Result<Split, Unanswered>
 }
 
 // The block and the values of the message that a line is.
-fn split_line(alloc: Global, line: &[u8]) -> Result<Split, Unanswered>
+fn split_line(alloc: Global, line: &[u8], room: &mut ReadingRoom) -> Result<Split, Unanswered>
     ensures { Gives told_refusal (λ split. (split.block, split.values)) result (line_parts line.now) }
 {
-    let doc = read_line(alloc, line)?;
+    let doc = read_line_in(alloc, line, room)?;
     let message = take_line_message(alloc, doc.into_node())?;
     let parts = split_message(alloc, &message)?;
     Ok(parts)
@@ -64,10 +64,15 @@ fn block_text(alloc: Global, number: u64, split: Split) -> Result<Bytes, NoMemor
 }
 
 /// The answer to a line of `blocks`, without a newline: its block under the empty policy, or the first refusal.
-pub fn answer(alloc: Global, number: u64, line: &[u8]) -> Result<Bytes, NoMemory>
+pub fn answer(
+    alloc: Global,
+    number: u64,
+    line: &[u8],
+    room: &mut ReadingRoom,
+) -> Result<Bytes, NoMemory>
     ensures { IfOk result (λ text. text ≡ block_answer number line.now) }
 {
-    match split_line(alloc, line) {
+    match split_line(alloc, line, room) {
         Ok(split) => block_text(alloc, number, split),
         Err(Unanswered::Refused(refusal)) => refusal_text(alloc, number, &refusal),
         Err(Unanswered::NoMemory) => Err(NoMemory),

@@ -4,13 +4,22 @@ ghost use Rattle.blocks_word.specs.BlockRuns.{Runs};
 
 use crate::answering::answer;
 use n32_outside::{Sink, Source};
-use n32_values::{Bytes, NoMemory};
+use n32_values::{Bytes, NoMemory, ReadingRoom};
 use script_loop::{Ending, Machine};
 use std::alloc::Global;
+use std::marker::Model;
 
-// The machine of `blocks`. It keeps nothing between two lines.
+// The machine of `blocks`. It keeps nothing between two lines but the room in which they are read.
 #[derive(Drop)]
-struct Blocks;
+struct Blocks {
+    room: ReadingRoom,
+}
+
+impl Model for Blocks {
+    ghost Value = { Unit {0} };
+
+    ghost view = { λ _. tt };
+}
 
 impl Machine for Blocks {
     ghost use Rattle.std.specs.Prelude.{refl};
@@ -30,7 +39,7 @@ impl Machine for Blocks {
     ghost goes_on = { λ a b c first then. then ∙ first };
 
     fn answer(&mut self, alloc: Global, number: u64, line: &[u8]) -> Result<Bytes, NoMemory> {
-        answer(alloc, number, line)
+        answer(alloc, number, line, &mut self.room)
     }
 }
 
@@ -46,5 +55,6 @@ pub fn run<S: Source, O: Sink>(alloc: Global, source: &mut S, sink: &mut O) -> E
     ensures writing { O.faults sink.old ≤ O.faults sink.new }
     ensures write_fault { result ≡ Ending.WriteFault → Rose (O.faults sink.old) (O.faults sink.new) }
 {
-    script_loop::run(alloc, source, sink, &mut Blocks)
+    let room = ReadingRoom::new(alloc);
+    script_loop::run(alloc, source, sink, &mut Blocks { room })
 }

@@ -16,6 +16,9 @@ use n32_values::{Doc, NoMemory, Node, NodeList, NodeMap, Text, copy_doc};
 use spec_messages::messages::what_is_printed_is_read;
 use std::alloc::Global;
 
+// The room that a path and a query have at first.
+const ROOM: usize = 64;
+
 fn part_node(alloc: Global, part: &Part) -> Result<Node, NoMemory>
     ensures { IfOk result (λ n. tree_of n ≡ part_tree (part_view part.now)) }
 {
@@ -28,7 +31,7 @@ fn part_node(alloc: Global, part: &Part) -> Result<Node, NoMemory>
 fn header_node(alloc: Global, header: &Header) -> Result<Node, NoMemory>
     ensures { IfOk result (λ n. tree_of n ≡ header_tree (header_pair (header_view header.now))) }
 {
-    let mut map = NodeMap::new(alloc);
+    let mut map = NodeMap::with_capacity(alloc, 2)?;
     put_text(alloc, &mut map, "header", header.name.as_str())?;
     put(alloc, &mut map, "value", part_node(alloc, &header.value)?)?;
     Ok(Node::Members(map))
@@ -38,7 +41,7 @@ fn header_node(alloc: Global, header: &Header) -> Result<Node, NoMemory>
 fn headers_node(alloc: Global, headers: &HeaderList) -> Result<Node, NoMemory>
     ensures { IfOk result (λ n. tree_of n ≡ items (list_tree header_tree (list_map header_pair (list_map header_view headers.now)))) }
 {
-    let mut list = NodeList::new(alloc);
+    let mut list = NodeList::with_capacity(alloc, headers.len())?;
     for i in 0..headers.len() {
         list.push(header_node(alloc, headers.item(i))?)?;
     }
@@ -94,7 +97,7 @@ fn push_later(alloc: Global, out: &mut String, pairs: &PairList) -> Result<(), N
 fn path_of(alloc: Global, parts: &PartList) -> Result<Text, NoMemory>
     ensures { IfOk result (λ t. t ≡ path_text (list_map part_view parts.now)) }
 {
-    let mut out = String::new(alloc);
+    let mut out = String::with_capacity(alloc, ROOM)?;
     push_path(alloc, &mut out, parts)?;
     Ok(Text::from_string(out))
 }
@@ -104,7 +107,7 @@ fn query_of(alloc: Global, pairs: &PairList) -> Result<Text, NoMemory>
     requires { 0 < length pairs.now }
     ensures { IfOk result (λ t. query_text (list_map pair_view pairs.now) ≡ Some t) }
 {
-    let mut out = String::new(alloc);
+    let mut out = String::with_capacity(alloc, ROOM)?;
     push_pair(alloc, &mut out, pairs.item(0))?;
     push_later(alloc, &mut out, pairs)?;
     Ok(Text::from_string(out))
@@ -116,7 +119,7 @@ fn query_of(alloc: Global, pairs: &PairList) -> Result<Text, NoMemory>
 pub fn line_node(alloc: Global, request: &Request) -> Result<Node, NoMemory>
     ensures { IfOk result (λ n. tree_of n ≡ line_tree (request_line request.now)) }
 {
-    let mut map = NodeMap::new(alloc);
+    let mut map = NodeMap::with_capacity(alloc, 6)?;
     let path = Node::Words(path_of(alloc, &request.segments)?);
     put_text(alloc, &mut map, "authority", request.authority.as_str())?;
     put_text(alloc, &mut map, "method", request.method.as_str())?;

@@ -1,10 +1,9 @@
 // The headers of a document.
-ghost use Rattle.std.specs.Prelude.{◌≡◌, map as list_map, option_map, IfOk, IfErr};
+ghost use Rattle.std.specs.Prelude.{◌≡◌, map as list_map, option_map};
 ghost use Rattle.n32_values.specs.View.{tree_of};
 ghost use Rattle.spec_messages.specs.Message as spec;
-ghost use Rattle.spec_documents.specs.Text as texts;
 ghost use Rattle.http_message.specs.Forms.{parts_of};
-ghost use Rattle.http_message.specs.Reading.{Gives, header_view, IsMemory};
+ghost use Rattle.http_message.specs.Reading.{Gives, header_view};
 
 use crate::form::{Form, read_header_value};
 use crate::message::{Header, HeaderList};
@@ -12,16 +11,6 @@ use crate::refusal::{MessageMember, MessageRead, wanted};
 use doc_forms::Grammar;
 use n32_values::{Node, NodeList, Text};
 use std::alloc::Global;
-
-fn lower(alloc: Global, text: &str) -> Result<Text, MessageRead>
-    ensures ok { IfOk result (λ t. t ≡ texts.lower text.now) }
-    ensures err { IfErr result IsMemory }
-{
-    match text.to_ascii_lowercase(alloc) {
-        Ok(lower) => Ok(Text::from_string(lower)),
-        Err(_) => Err(MessageRead::NoMemory),
-    }
-}
 
 fn read_header(alloc: Global, form: Form, node: &Node) -> Result<Header, MessageRead>
     ensures { Gives header_view result (spec.wanted (spec.header_of (parts_of form) (tree_of node.now)) spec.headers) }
@@ -32,7 +21,7 @@ fn read_header(alloc: Global, form: Form, node: &Node) -> Result<Header, Message
     let name = wanted(map, "header", Grammar::HeaderName, MessageMember::Headers)?;
     let value = read_header_value(alloc, form, map.get("value"))?;
     Ok(Header {
-        name: lower(alloc, name)?,
+        name: Text::lowered(alloc, name)?,
         value,
     })
 }

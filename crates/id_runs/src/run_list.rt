@@ -72,13 +72,6 @@ impl RunList {
         self.runs.len()
     }
 
-    /// Whether there is no id.
-    pub fn is_empty(&self) -> bool
-        ensures { IsTrue result → self.now.runs ≡ [] }
-    {
-        self.runs.is_empty()
-    }
-
     /// The run of this place, in one step.
     pub fn run_at<L: Ledger>(&self, i: usize, steps: &mut Steps<L>) -> Run
         requires { i < length self.now.runs }

@@ -70,7 +70,7 @@ fn filled_part(alloc: Global, values: &NodeList, part: &Part) -> Result<Part, No
 fn filled_segments(alloc: Global, values: &NodeList, parts: &PartList) -> Result<PartList, NoMemory>
     ensures { IfOk result (λ ps. list_map part_view ps ≡ list_map (spec.fill_part values.now) (list_map part_view parts.now)) }
 {
-    let mut filled = PartList::new(alloc);
+    let mut filled = PartList::with_capacity(alloc, parts.len())?;
     for i in 0..parts.len() {
         filled.push(filled_part(alloc, values, parts.item(i))?)?;
     }
@@ -116,7 +116,7 @@ fn filled_headers(
 ) -> Result<HeaderList, NoMemory>
     ensures { IfOk result (λ hs. list_map header_view hs ≡ list_map (spec.fill_header values.now) (list_map header_view headers.now)) }
 {
-    let mut filled = HeaderList::new(alloc);
+    let mut filled = HeaderList::with_capacity(alloc, headers.len())?;
     for i in 0..headers.len() {
         filled.push(filled_header(alloc, values, headers.item(i))?)?;
     }

@@ -39,7 +39,7 @@ fn filled_list(alloc: Global, values: &NodeList, list: &NodeList) -> Result<Node
     requires { length values.now < 2 ^ 32 }
     ensures { IfOk result (λ l. trees l ≡ fill_items values.now (trees list.now)) }
 {
-    let mut filled = NodeList::new(alloc);
+    let mut filled = NodeList::with_capacity(alloc, list.len())?;
     for i in 0..list.len() {
         filled.push(filled_node(alloc, values, list.item(i))?)?;
     }
@@ -51,7 +51,7 @@ fn filled_map(alloc: Global, values: &NodeList, map: &NodeMap) -> Result<NodeMap
     requires { length values.now < 2 ^ 32 }
     ensures { IfOk result (λ m. m ≡ fill_members values.now map.now) }
 {
-    let mut filled = NodeMap::new(alloc);
+    let mut filled = NodeMap::with_capacity(alloc, map.len())?;
     for i in 0..map.len() {
         let (name, node) = map.entry(i);
         let node = filled_node(alloc, values, node)?;

@@ -1,3 +1,4 @@
+pub mod Chars
 pub mod View
 pub mod Falls
 pub mod Lending

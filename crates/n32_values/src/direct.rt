@@ -181,16 +181,30 @@ fn read_whole(alloc: Global, text: &str, scratch: &mut Scratch) -> Result<Node, 
     Ok(node)
 }
 
+/// Room for reading documents, which need not be made anew for each of them.
+#[derive(Drop)]
+pub struct ReadingRoom {
+    scratch: Scratch,
+}
+
+impl ReadingRoom {
+    /// It takes memory with the first document that is read.
+    pub fn new(alloc: Global) -> ReadingRoom {
+        ReadingRoom {
+            scratch: Scratch::new(alloc),
+        }
+    }
+}
+
 /// The document of bytes, or `None` where they have none or memory is refused.
-pub(crate) fn read_direct(alloc: Global, bytes: &[u8]) -> Option<Doc>
+pub(crate) fn read_direct(alloc: Global, bytes: &[u8], room: &mut ReadingRoom) -> Option<Doc>
     ensures { IfSome result (λ d. document_of bytes.now ≡ Some d) }
 {
     documents_are_read();
     let Ok(text) = simdutf8::compat::from_utf8(bytes) else {
         return None;
     };
-    let mut scratch = Scratch::new(alloc);
-    let Ok(node) = read_whole(alloc, text, &mut scratch) else {
+    let Ok(node) = read_whole(alloc, text, &mut room.scratch) else {
         return None;
     };
     match Doc::new(node) {

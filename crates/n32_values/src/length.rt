@@ -29,10 +29,10 @@ pub fn text_length(node: &Node) -> u64
 
 /// Whether the compact text of a node has more bytes than a limit. A node whose texts are short enough,
 /// however many of their bytes are escaped, isn't gone through byte by byte.
-pub fn is_longer(node: &Node, limit: u64) -> bool
-    requires { limit < 2 ^ 64 - 1 }
+pub fn is_longer(node: &Node, limit: u32) -> bool
     ensures { result ≡ nat_lt limit (length (compact_text (tree_of node.now))) }
 {
+    let limit = limit as u64;
     limit < most_length(node) && limit < text_length(node)
 }
 

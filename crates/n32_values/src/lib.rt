@@ -19,6 +19,7 @@ mod write;
 
 pub use base64url::{B64Fault, base64url_text, read_base64url};
 pub use bytes::Bytes;
+pub use direct::ReadingRoom;
 pub use doc::Doc;
 pub use ids::{Hex64, hex64_text, read_hex64};
 pub use length::{is_longer, text_length};
@@ -26,7 +27,7 @@ pub use list::{DocList, List, TextList};
 pub use memory::NoMemory;
 pub use node::{Node, NodeList, NodeMap, copy_doc, depth};
 pub use plmn::{PlmnId, read_plmn};
-pub use read::{DocFault, read_doc};
+pub use read::{DocFault, read_doc, read_doc_in};
 pub use same::is_same_doc;
 pub use text::Text;
 pub use whole::Whole;

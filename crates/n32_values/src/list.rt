@@ -40,6 +40,15 @@ impl<T> List<T> {
         }
     }
 
+    /// The empty list, with room for so many items.
+    pub fn with_capacity(alloc: Global, count: usize) -> Result<List<T>, NoMemory>
+        ensures { IfOk result (λ l. l ≡ []) }
+    {
+        Ok(List {
+            inner: Vec::with_capacity(alloc, count)?,
+        })
+    }
+
     /// Takes a `Vec` without taking memory.
     pub fn from_vec(inner: Vec<T>) -> List<T>
         ensures { result ≡ inner.items }
@@ -115,7 +124,7 @@ impl List<Text> {
     pub fn copy(&self, alloc: Global) -> Result<TextList, NoMemory>
         ensures { IfOk result (λ l. l ≡ self.now) }
     {
-        let mut copies = TextList::new(alloc);
+        let mut copies = TextList::with_capacity(alloc, self.inner.len())?;
         for text in &self.inner {
             copies.push(text.copy(alloc)?)?;
         }

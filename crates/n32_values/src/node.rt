@@ -112,6 +112,15 @@ impl NodeList {
         }
     }
 
+    /// The empty list, with room for so many items.
+    pub fn with_capacity(alloc: Global, count: usize) -> Result<NodeList, NoMemory>
+        ensures { IfOk result (λ l. l ≡ []) }
+    {
+        Ok(NodeList {
+            inner: Vec::with_capacity(alloc, count)?,
+        })
+    }
+
     /// How many items it has.
     pub fn len(&self) -> usize
         ensures { result ≡ length self.now }
@@ -189,6 +198,15 @@ impl NodeMap {
         NodeMap {
             inner: Vec::new(alloc),
         }
+    }
+
+    /// The empty map, with room for so many members.
+    pub fn with_capacity(alloc: Global, count: usize) -> Result<NodeMap, NoMemory>
+        ensures { IfOk result (λ m. m ≡ no_members) }
+    {
+        Ok(NodeMap {
+            inner: Vec::with_capacity(alloc, count)?,
+        })
     }
 
     /// How many members it has.
@@ -277,6 +295,7 @@ impl NodeMap {
     {
         match search(&self.inner, name.as_str()) {
             Ok(i) => {
+                let_go(name);
                 let member = &mut self.inner[i];
                 Ok(Some(mem::replace(&mut member.node, node)))
             }
@@ -301,6 +320,9 @@ impl NodeMap {
         }
     }
 }
+
+// A name that stands in a map already. Letting it go goes by how its bytes are kept, and is apart for that.
+fn let_go(_name: Text) {}
 
 fn search(members: &[Member], name: &str) -> Result<usize, usize>
     requires { AreAscending (entries_view members.now) }
@@ -376,7 +398,7 @@ pub fn copy_doc(alloc: Global, node: &Node) -> Result<Node, NoMemory>
 fn copy_list(alloc: Global, list: &NodeList) -> Result<NodeList, NoMemory>
     ensures { IfOk result (λ l. l ≡ list.now) }
 {
-    let mut copies = NodeList::new(alloc);
+    let mut copies = NodeList::with_capacity(alloc, list.inner.len())?;
     for node in &list.inner {
         copies.push(copy_doc(alloc, node)?)?;
     }
@@ -387,7 +409,7 @@ fn copy_list(alloc: Global, list: &NodeList) -> Result<NodeList, NoMemory>
 fn copy_map(alloc: Global, map: &NodeMap) -> Result<NodeMap, NoMemory>
     ensures { IfOk result (λ m. m ≡ map.now) }
 {
-    let mut copies = Vec::new(alloc);
+    let mut copies = Vec::with_capacity(alloc, map.inner.len())?;
     for member in &map.inner {
         let name = member.name.copy(alloc)?;
         let node = copy_doc(alloc, &member.node)?;

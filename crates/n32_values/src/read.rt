@@ -9,7 +9,7 @@ ghost use Rattle.n32_values.specs.View.{tree_of};
 ghost use Rattle.spec_documents.specs.Reading.{tree_from, trees_from, members_from, HasReading, ReadsTo, HasOtherNumber, document_of};
 ghost use Rattle.n32_values.specs.Faults.{NoDocument};
 
-use crate::direct::read_direct;
+use crate::direct::{ReadingRoom, read_direct};
 use crate::doc::Doc;
 use crate::memory::NoMemory;
 use crate::node::{Node, NodeList, NodeMap};
@@ -121,8 +121,20 @@ pub fn read_doc(alloc: Global, bytes: &[u8]) -> Result<Doc, DocFault>
     ensures document { IfOk result (λ d. document_of bytes.now ≡ Some d) }
     ensures none { IfErr result (λ why. NoDocument why (document_of bytes.now)) }
 {
+    let mut room = ReadingRoom::new(alloc);
+    read_doc_in(alloc, bytes, &mut room)
+}
+
+/// The document that bytes are read to, as `read_doc` reads it, in room that is kept from one reading to the next.
+pub fn read_doc_in(alloc: Global, bytes: &[u8], room: &mut ReadingRoom) -> Result<Doc, DocFault>
+    ensures tree { IfOk result (ReadsTo bytes.now) }
+    ensures syntax { result ≡ Err DocFault.Syntax → (d : Data) → HasReading bytes.now d → ⊥ }
+    ensures number { result ≡ Err DocFault.Number → HasOtherNumber bytes.now }
+    ensures document { IfOk result (λ d. document_of bytes.now ≡ Some d) }
+    ensures none { IfErr result (λ why. NoDocument why (document_of bytes.now)) }
+{
     documents_are_read();
-    if let Some(doc) = read_direct(alloc, bytes) {
+    if let Some(doc) = read_direct(alloc, bytes, room) {
         return Ok(doc);
     }
     let value = match Value::from_slice(alloc, bytes) {

@@ -14,13 +14,16 @@ use crate::whole::Whole;
 use json::Writer;
 use std::alloc::Global;
 
+// The room that a text has at first, which most lines find enough.
+const ROOM: usize = 1024;
+
 /// The compact text of a node: no spaces, members in byte order of their names. Up to depth 127 it is read back to the same tree.
 pub fn doc_text(alloc: Global, node: &Node) -> Result<Bytes, NoMemory>
     ensures text { IfOk result (λ b. b ≡ compact_text (tree_of node.now)) }
     ensures reads_back { IfOk result
         (λ b. nesting (tree_of node.now) ≤ 127 → ReadsTo b (tree_of node.now)) }
 {
-    let mut out = Writer::new(Vec::new(alloc));
+    let mut out = Writer::new(Vec::with_capacity(alloc, ROOM)?);
     write(node, &mut out)?;
     Ok(Bytes::from_vec(out.into_inner()))
 }

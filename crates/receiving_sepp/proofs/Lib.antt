@@ -1,3 +1,4 @@
+mod Apart
 mod BlockTold
 mod Calls
 mod Commuting

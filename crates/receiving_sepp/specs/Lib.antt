@@ -3,3 +3,4 @@ pub mod Views
 pub mod Refusing
 pub mod Refilling
 pub mod Outcome
+pub mod Apart

@@ -96,7 +96,7 @@ fn hidden_list(
     ensures pointer { OnOk result (pointer.new ≡ pointer.old) }
 {
     let depth = pointer.len();
-    let mut hidden = NodeList::new(alloc);
+    let mut hidden = NodeList::with_capacity(alloc, list.len())?;
     for i in 0..list.len() {
         let index = number_text(alloc, i as u64)?;
         let token = index.as_str();
@@ -123,7 +123,7 @@ fn hidden_map(
     ensures pointer { OnOk result (pointer.new ≡ pointer.old) }
 {
     let depth = pointer.len();
-    let mut hidden = NodeMap::new(alloc);
+    let mut hidden = NodeMap::with_capacity(alloc, map.len())?;
     for i in 0..map.len() {
         let (name, node) = map.entry(i);
         let token = name.as_str();
@@ -146,7 +146,7 @@ fn push_item(
 ) -> Result<(), NoMemory>
     ensures { OnOk result (items.new ≡ items.old ++ item_tree (text_of pointer.now, tree_of value) ∷ []) }
 {
-    let mut item = NodeMap::new(alloc);
+    let mut item = NodeMap::with_capacity(alloc, 3)?;
     put(
         alloc,
         &mut item,

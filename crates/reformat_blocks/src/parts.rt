@@ -82,7 +82,7 @@ pub(crate) fn hidden_segments(
     ensures parts { IfOk result (λ ps. list_map part_view ps ≡ hide_each (segment_test rules.now) hide_part 0 (length values.old) (list_map part_view parts.now)) }
     ensures values { OnOk result (values.new ≡ values.old ++ list_map (λ s. s.1) (numbered (segment_test rules.now) segment_spot value_of 0 (list_map part_view parts.now))) }
 {
-    let mut hidden = PartList::new(alloc);
+    let mut hidden = PartList::with_capacity(alloc, parts.len())?;
     for i in 0..parts.len() {
         hidden.push(hidden_segment(alloc, rules, i, parts.item(i), values)?)?;
     }
@@ -150,7 +150,7 @@ pub(crate) fn hidden_headers(
     ensures headers { IfOk result (λ hs. list_map header_view hs ≡ hide_each (header_test rules.now) hide_header 0 (length values.old) (list_map header_view headers.now)) }
     ensures values { OnOk result (values.new ≡ values.old ++ list_map (λ s. s.1) (numbered (header_test rules.now) header_spot (λ h. value_of h.value) 0 (list_map header_view headers.now))) }
 {
-    let mut hidden = HeaderList::new(alloc);
+    let mut hidden = HeaderList::with_capacity(alloc, headers.len())?;
     for i in 0..headers.len() {
         hidden.push(hidden_header(alloc, rules, headers.item(i), values)?)?;
     }

@@ -29,7 +29,7 @@ pub use event_member::EventMember;
 pub use event_reading::read_event;
 pub use hand_answers::{ended_text, opened_text, opening_text};
 pub use hand_refusal::HandRefusal;
-pub use line_reading::{read_line, read_line_message, take_line_message};
+pub use line_reading::{read_line, read_line_in, read_line_message, take_line_message};
 pub use offer::HandedOffer;
 pub use refusal::Refusal;
 pub use unanswered::Unanswered;

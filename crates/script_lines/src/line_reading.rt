@@ -12,7 +12,7 @@ ghost use Rattle.script_lines.specs.Unanswered.{SparesKeeper, told_refusal};
 use crate::refusal::Refusal;
 use crate::unanswered::Unanswered;
 use http_message::{Message, MessageRead, read_message, take_message};
-use n32_values::{Doc, DocFault, Node, read_doc};
+use n32_values::{Doc, DocFault, Node, ReadingRoom, read_doc_in};
 use std::alloc::Global;
 
 /// The document of a line. `Syntax` is refused where the line is no JSON value in UTF-8 that nests at most 127 deep
@@ -22,7 +22,21 @@ pub fn read_line(alloc: Global, line: &[u8]) -> Result<Doc, Unanswered>
     ensures shallow { IfOk result (λ d. nesting d ≤ 127) }
     ensures spares { SparesKeeper result }
 {
-    match read_doc(alloc, line) {
+    let mut room = ReadingRoom::new(alloc);
+    read_line_in(alloc, line, &mut room)
+}
+
+/// The document of a line, as `read_line` reads it, in room that is kept from one line to the next.
+pub fn read_line_in(
+    alloc: Global,
+    line: &[u8],
+    room: &mut ReadingRoom,
+) -> Result<Doc, Unanswered>
+    ensures gives { Gives told_refusal (λ d. d) result (line_tree line.now) }
+    ensures shallow { IfOk result (λ d. nesting d ≤ 127) }
+    ensures spares { SparesKeeper result }
+{
+    match read_doc_in(alloc, line, room) {
         Ok(document) => {
             let _shallow = document.node();
             Ok(document)

@@ -1,3 +1,4 @@
+mod Apart
 mod Limits
 mod Metas
 mod Outcomes

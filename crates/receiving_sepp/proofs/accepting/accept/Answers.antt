@@ -1,6 +1,7 @@
 use Rattle.std.proofs.lemmas.Result.{err_from_is_err_and}
 use Rattle.message_screens.specs.Screening.{rule_of}
 use Rattle.receiving_sepp.specs.Outcome.{delivery_view}
+use Rattle.receiving_sepp.proofs.Apart.{apart, own_added}
 use Rattle.receiving_sepp.proofs.Calls.{stale_of, unread_accepts, refused_accepts, put_accepts, other_than_keeper}
 use Rattle.receiving_sepp.proofs.Commuting.{delivers_patched}
 use Rattle.receiving_sepp.proofs.Failures.{last_hold, verifier_rose}
@@ -61,3 +62,33 @@ pub returns-clause-commutes : goal.returns-clause-commutes
 returns-clause-commutes g c =
     delivers_patched c.delivered_document_is_opened_and_changed.ensures c.delivered_document_commutes.ensures (g.R.ScreenRule.passes (rule_of c.args.screen.now)) (g.K.Keeper.held c.refresh.new.keeper) (g.K.Keeper.held c.deliver.new.keeper) c.refresh.new.self c.deliver.new.store c.args.node.now c.args.document.now (delivery_view c.args.node.now c.in_ok-checked.checked)
     (g.V.Verifier.meaning c.args.verifier.now) (g.V.Verifier.faults c.args.verifier.now) (g.V.Verifier.faults c.check.new.verifier) c.deliver.result c.deliver.ensures.delivers c.in_ok-checked.ensures.ordered c.in_ok-checked.ensures.checks
+
+pub returns-in_err-refresh-clause-apart : goal.returns-in_err-refresh-clause-apart
+returns-in_err-refresh-clause-apart g c = λ d e room.
+    apart (g.R.ScreenRule.passes (rule_of c.args.screen.now)) (g.V.Verifier.meaning c.args.verifier.now) (g.V.Verifier.faults c.args.verifier.now) (g.V.Verifier.faults c.args.verifier.now) (g.K.Keeper.held c.args.keeper.now) (g.K.Keeper.held c.refresh.new.keeper) c.args.store.now c.refresh.new.self c.args.node.now c.args.document.now c.from_residual.result
+    d e room (returns-in_err-refresh-clause-accepts g c)
+
+pub returns-in_err-checked-clause-apart : goal.returns-in_err-checked-clause-apart
+returns-in_err-checked-clause-apart g c = λ d e room.
+    apart (g.R.ScreenRule.passes (rule_of c.args.screen.now)) (g.V.Verifier.meaning c.args.verifier.now) (g.V.Verifier.faults c.args.verifier.now) (g.V.Verifier.faults c.check.new.verifier) (g.K.Keeper.held c.args.keeper.now) (g.K.Keeper.held c.refresh.new.keeper) c.args.store.now c.refresh.new.self c.args.node.now c.args.document.now c.from_residual-in_err-checked.result
+    d e room (returns-in_err-checked-clause-accepts g c)
+
+pub returns-clause-apart : goal.returns-clause-apart
+returns-clause-apart g c = λ d e room.
+    apart (g.R.ScreenRule.passes (rule_of c.args.screen.now)) (g.V.Verifier.meaning c.args.verifier.now) (g.V.Verifier.faults c.args.verifier.now) (g.V.Verifier.faults c.check.new.verifier) (g.K.Keeper.held c.args.keeper.now) (g.K.Keeper.held c.deliver.new.keeper) c.args.store.now c.deliver.new.store c.args.node.now c.args.document.now c.deliver.result
+    d e room (returns-clause-accepts g c)
+
+pub returns-in_err-refresh-clause-own : goal.returns-in_err-refresh-clause-own
+returns-in_err-refresh-clause-own g c =
+    own_added (g.R.ScreenRule.passes (rule_of c.args.screen.now)) (g.V.Verifier.meaning c.args.verifier.now) (g.V.Verifier.faults c.args.verifier.now) (g.V.Verifier.faults c.args.verifier.now) (g.K.Keeper.held c.args.keeper.now) (g.K.Keeper.held c.refresh.new.keeper) c.args.store.now c.refresh.new.self c.args.node.now c.args.document.now c.from_residual.result
+    (returns-in_err-refresh-clause-accepts g c)
+
+pub returns-in_err-checked-clause-own : goal.returns-in_err-checked-clause-own
+returns-in_err-checked-clause-own g c =
+    own_added (g.R.ScreenRule.passes (rule_of c.args.screen.now)) (g.V.Verifier.meaning c.args.verifier.now) (g.V.Verifier.faults c.args.verifier.now) (g.V.Verifier.faults c.check.new.verifier) (g.K.Keeper.held c.args.keeper.now) (g.K.Keeper.held c.refresh.new.keeper) c.args.store.now c.refresh.new.self c.args.node.now c.args.document.now c.from_residual-in_err-checked.result
+    (returns-in_err-checked-clause-accepts g c)
+
+pub returns-clause-own : goal.returns-clause-own
+returns-clause-own g c =
+    own_added (g.R.ScreenRule.passes (rule_of c.args.screen.now)) (g.V.Verifier.meaning c.args.verifier.now) (g.V.Verifier.faults c.args.verifier.now) (g.V.Verifier.faults c.check.new.verifier) (g.K.Keeper.held c.args.keeper.now) (g.K.Keeper.held c.deliver.new.keeper) c.args.store.now c.deliver.new.store c.args.node.now c.args.document.now c.deliver.result
+    (returns-clause-accepts g c)

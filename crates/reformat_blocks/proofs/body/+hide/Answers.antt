@@ -38,7 +38,7 @@ pub hidden_map-loop-i-init : goal.hidden_map-loop-i-init
 hidden_map-loop-i-init t c = record {
   deep = c.len-depth.ensures;
   pointer = refl;
-  map = ap (λ m. field_list m ++ field_list (hide_members (node_test c.args.body.now) c.args.pointer.now (length c.args.values.now) (fields (field_list c.args.map.now)))) c.new-hidden.ensures
+  map = ap (λ m. field_list m ++ field_list (hide_members (node_test c.args.body.now) c.args.pointer.now (length c.args.values.now) (fields (field_list c.args.map.now)))) c.in_ok-hidden.ensures
       ∙ ap (λ ms. field_list (hide_members (node_test c.args.body.now) c.args.pointer.now (length c.args.values.now) ms)) (fields-field_list c.args.map.now);
   values = ap (λ ms. c.args.values.now ++ stood (outermost_members (node_test c.args.body.now) c.args.pointer.now ms)) (fields-field_list c.args.map.now);
 }
