@@ -295,7 +295,6 @@ impl NodeMap {
     {
         match search(&self.inner, name.as_str()) {
             Ok(i) => {
-                let_go(name);
                 let member = &mut self.inner[i];
                 Ok(Some(mem::replace(&mut member.node, node)))
             }
@@ -320,9 +319,6 @@ impl NodeMap {
         }
     }
 }
-
-// A name that stands in a map already. Letting it go goes by how its bytes are kept, and is apart for that.
-fn let_go(_name: Text) {}
 
 fn search(members: &[Member], name: &str) -> Result<usize, usize>
     requires { AreAscending (entries_view members.now) }
