@@ -14,9 +14,9 @@ use std::alloc::Global;
 #[derive(Drop)]
 pub(crate) struct Cache {
     pub used: bool,
-    pub opened: Option<u64>,
+    pub opened: Option<u32>,
     pub closed: bool,
-    pub keyed: Option<u64>,
+    pub keyed: Option<u32>,
     pub sent_request: Option<u32>,
     pub sent_response: Option<u32>,
     pub sent_requests: RunList,
@@ -42,7 +42,7 @@ fn new_cache(alloc: Global) -> Cache
     }
 }
 
-fn first(known: Option<u64>, number: u64) -> Option<u64>
+fn first(known: Option<u32>, number: u32) -> Option<u32>
     ensures { result ≡ option_or known (Some number) }
 {
     match known {
@@ -84,7 +84,7 @@ pub(crate) fn roomy_cache(alloc: Global) -> Result<Cache, NoMemory>
 }
 
 // Keeps what the record of this number tells.
-pub(crate) fn note(cache: &mut Cache, number: u64, fact: Fact)
+pub(crate) fn note(cache: &mut Cache, number: u32, fact: Fact)
     requires { 1 ≤ room_of cache.old }
     ensures { known_of cache.new ≡ noted number fact (known_of cache.old) }
 {

@@ -98,7 +98,7 @@ impl Caches {
     }
 
     /// Keeps what the record of this number tells of its context. It takes no memory.
-    pub fn note(&mut self, node: &str, id: u64, number: u64, fact: Fact)
+    pub fn note(&mut self, node: &str, id: u64, number: u32, fact: Fact)
         requires { 1 ≤ room_at node.now id self.old }
         ensures { (n : List ℕ) (i : ℕ) → known_at n i self.new ≡ (if is_named n i node.now id then noted number fact (known_at node.now id self.old) else known_at n i self.old) }
     {
@@ -129,7 +129,7 @@ impl Caches {
     }
 
     /// The number of the first opened record.
-    pub fn opened(&self, node: &str, id: u64) -> Option<u64>
+    pub fn opened(&self, node: &str, id: u64) -> Option<u32>
         ensures { result ≡ (known_at node.now id self.now).opened }
     {
         match self.find(node, id) {
@@ -149,7 +149,7 @@ impl Caches {
     }
 
     /// The number of the record with the keys.
-    pub fn keyed(&self, node: &str, id: u64) -> Option<u64>
+    pub fn keyed(&self, node: &str, id: u64) -> Option<u32>
         ensures { result ≡ (known_at node.now id self.now).keyed }
     {
         match self.find(node, id) {
@@ -209,7 +209,7 @@ impl Caches {
     }
 
     /// The number of the first record of a delivered request.
-    pub fn delivered_request(&self, node: &str, id: u64, message: u64) -> Option<u64>
+    pub fn delivered_request(&self, node: &str, id: u64, message: u64) -> Option<u32>
         ensures { result ≡ option_map (λ e. e.number) (entry_of message (known_at node.now id self.now).delivered_requests) }
     {
         match self.find(node, id) {
@@ -219,7 +219,7 @@ impl Caches {
     }
 
     /// The number of the first record of a delivered response.
-    pub fn delivered_response(&self, node: &str, id: u64, message: u64) -> Option<u64>
+    pub fn delivered_response(&self, node: &str, id: u64, message: u64) -> Option<u32>
         ensures { result ≡ option_map (λ e. e.number) (entry_of message (known_at node.now id self.now).delivered_responses) }
     {
         match self.find(node, id) {

@@ -43,10 +43,10 @@ context_view x = record {
 
 abbrev pub record_view : Record → spec.Record
 record_view (Offered node id) = spec.Offered node id.value
-record_view (Opened x) = spec.Opened (context_view x)
-record_view (Keyed node id keys) = spec.Keyed node id.value (key_set_view keys)
-record_view (Sent node id kind seq message mapping) = spec.Sent node id.value (kind_view kind) seq message.value mapping
-record_view (Delivered node id kind message mapping) = spec.Delivered node id.value (kind_view kind) message.value mapping
+record_view (Opened x) = spec.Opened (context_view x.value)
+record_view (Keyed node id keys) = spec.Keyed node id.value (key_set_view keys.value)
+record_view (Sent kind seq node id message mapping) = spec.Sent node id.value (kind_view kind) seq message.value mapping
+record_view (Delivered kind node id message mapping) = spec.Delivered node id.value (kind_view kind) message.value mapping
 record_view (Closed node id) = spec.Closed node id.value
 
 -- the keys of a direction

@@ -13,7 +13,7 @@ pub mod words;
 mod write;
 
 pub use context::{Context, KeySet, OneKey};
-pub use read::{RecordRead, read_record};
+pub use read::{RecordRead, read_record, read_record_in};
 pub use record::Record;
 pub use suite_keys::{receive_key, send_key, send_nonce};
 pub use write::record_text;

@@ -15,7 +15,7 @@ use crate::words::{
     read_policy_at, read_suite,
 };
 use doc_forms::{Grammar, text_at};
-use n32_values::{DocFault, Hex64, NoMemory, Node, NodeMap, Text, read_doc};
+use n32_values::{DocFault, Hex64, NoMemory, Node, NodeMap, ReadingRoom, Text, read_doc_in};
 use std::alloc::Global;
 
 /// Why a text is read to no record.
@@ -48,7 +48,7 @@ fn read_opened(alloc: Global, map: &NodeMap, node: Text, id: Hex64) -> Result<Re
     if map.len() != 10 {
         return Err(RecordRead::Form);
     }
-    Ok(Record::Opened(Context {
+    let context = Context {
         node,
         id,
         peer_node,
@@ -58,10 +58,11 @@ fn read_opened(alloc: Global, map: &NodeMap, node: Text, id: Hex64) -> Result<Re
         policy,
         own_ipx,
         peer_ipx,
-    }))
+    };
+    Ok(Record::of_context(alloc, context)?)
 }
 
-fn read_keyed(map: &NodeMap, node: Text, id: Hex64) -> Result<Record, RecordRead>
+fn read_keyed(alloc: Global, map: &NodeMap, node: Text, id: Hex64) -> Result<Record, RecordRead>
     ensures { Gives record_view result (document.keyed_of node id.value map.now) }
 {
     let first = read_number(map.get("first"))?;
@@ -77,7 +78,7 @@ fn read_keyed(map: &NodeMap, node: Text, id: Hex64) -> Result<Record, RecordRead
         receive_response,
         first,
     };
-    Ok(Record::Keyed { node, id, keys })
+    Ok(Record::of_keys(alloc, node, id, keys)?)
 }
 
 fn read_sent(map: &NodeMap, node: Text, id: Hex64) -> Result<Record, RecordRead>
@@ -91,10 +92,10 @@ fn read_sent(map: &NodeMap, node: Text, id: Hex64) -> Result<Record, RecordRead>
         return Err(RecordRead::Form);
     }
     Ok(Record::Sent {
-        node,
-        id,
         kind,
         seq,
+        node,
+        id,
         message,
         mapping,
     })
@@ -110,9 +111,9 @@ fn read_delivered(map: &NodeMap, node: Text, id: Hex64) -> Result<Record, Record
         return Err(RecordRead::Form);
     }
     Ok(Record::Delivered {
+        kind,
         node,
         id,
-        kind,
         message,
         mapping,
     })
@@ -151,7 +152,7 @@ fn read_named(
     } else if is == "opened" {
         read_opened(alloc, map, node, id)
     } else if is == "keyed" {
-        read_keyed(map, node, id)
+        read_keyed(alloc, map, node, id)
     } else if is == "sent" {
         read_sent(map, node, id)
     } else if is == "delivered" {
@@ -197,7 +198,20 @@ pub fn read_record(alloc: Global, bytes: &[u8]) -> Result<Record, RecordRead>
     ensures ok { IfOk result (λ r. ReadsRecord bytes.now (record_view r)) }
     ensures form { result ≡ Err RecordRead.Form → (r : spec_record) → ReadsRecord bytes.now r → ⊥ }
 {
-    match read_doc(alloc, bytes) {
+    let mut room = ReadingRoom::new(alloc);
+    read_record_in(alloc, bytes, &mut room)
+}
+
+/// Reads a record as `read_record` does, in room that is kept from one reading to the next.
+pub fn read_record_in(
+    alloc: Global,
+    bytes: &[u8],
+    room: &mut ReadingRoom,
+) -> Result<Record, RecordRead>
+    ensures ok { IfOk result (λ r. ReadsRecord bytes.now (record_view r)) }
+    ensures form { result ≡ Err RecordRead.Form → (r : spec_record) → ReadsRecord bytes.now r → ⊥ }
+{
+    match read_doc_in(alloc, bytes, room) {
         Ok(doc) => read_node(alloc, doc.node()),
         Err(DocFault::Syntax) => Err(RecordRead::Form),
         Err(DocFault::Number) => Err(RecordRead::Form),

@@ -177,17 +177,17 @@ fn record_node(alloc: Global, item: &Record) -> Result<Node, NoMemory>
         Record::Opened(context) => opened_node(alloc, context),
         Record::Keyed { node, id, keys } => keyed_node(alloc, node, *id, keys),
         Record::Sent {
-            node,
-            id,
             kind,
             seq,
+            node,
+            id,
             message,
             mapping,
         } => { sent_node(alloc, node, *id, *kind, *seq, *message, *mapping) }
         Record::Delivered {
+            kind,
             node,
             id,
-            kind,
             message,
             mapping,
         } => { delivered_node(alloc, node, *id, *kind, *message, *mapping) }

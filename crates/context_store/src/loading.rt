@@ -13,12 +13,18 @@ use crate::faults::OpenFault;
 use crate::noting::{make_room, push_record};
 use crate::store::RECORD_LIMIT;
 use context_cache::Caches;
-use context_records::{Record, RecordRead, read_record};
+use context_records::{Record, RecordRead, read_record_in};
 use n32_outside::{Keeper, OutFault};
+use n32_values::ReadingRoom;
 use std::alloc::Global;
 
 // The record of the held text of this number.
-fn read_text(alloc: Global, number: u64, text: &[u8]) -> Result<Record, OpenFault>
+fn read_text(
+    alloc: Global,
+    number: u64,
+    text: &[u8],
+    room: &mut ReadingRoom,
+) -> Result<Record, OpenFault>
     ensures ok { IfOk result (λ r. ReadsRecord text.now (record_view r)) }
     ensures named { IfOk result (λ r. IsTrue (is_well_named (record_view r))) }
     ensures room { OnOk result (number < record_limit) }
@@ -27,7 +33,7 @@ fn read_text(alloc: Global, number: u64, text: &[u8]) -> Result<Record, OpenFaul
     if number >= RECORD_LIMIT as u64 {
         return Err(OpenFault::Journal(number));
     }
-    match read_record(alloc, text) {
+    match read_record_in(alloc, text, room) {
         Ok(record) => Ok(record),
         Err(RecordRead::Form) => Err(OpenFault::Journal(number)),
         Err(RecordRead::NoMemory) => Err(OpenFault::NoMemory),
@@ -40,7 +46,8 @@ fn push(
     caches: &mut Caches,
     item: Record,
 ) -> Result<(), OpenFault>
-    requires { IsMirror caches.old (map record_view records.old.items) }
+    requires mirror { IsMirror caches.old (map record_view records.old.items) }
+    requires few { length records.old.items < record_limit }
     ensures ok { OnOk result (records.new.items ≡ records.old.items ++ item ∷ []) }
     ensures mirror { OnOk result (IsMirror caches.new (map record_view records.new.items)) }
     ensures err { IfErr result (λ e. e ≡ OpenFault.NoMemory) }
@@ -70,6 +77,7 @@ pub(crate) fn read_records<K: Keeper>(
 {
     let mut records = Vec::new(alloc);
     let mut caches = Caches::new(alloc);
+    let mut room = ReadingRoom::new(alloc);
     let mut number = 0u64;
     loop {
         match keeper.load(alloc, number) {
@@ -77,7 +85,7 @@ pub(crate) fn read_records<K: Keeper>(
             Err(OutFault::Failed) => return Err(OpenFault::Keeper),
             Err(OutFault::NoMemory) => return Err(OpenFault::NoMemory),
             Ok(Some(text)) => {
-                let record = read_text(alloc, number, text.as_slice())?;
+                let record = read_text(alloc, number, text.as_slice(), &mut room)?;
                 push(alloc, &mut records, &mut caches, record)?;
             }
         }

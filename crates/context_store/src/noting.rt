@@ -1,5 +1,5 @@
 // One more record, and what it tells.
-ghost use Rattle.std.specs.Prelude.{◌≡◌, ◌<◌, ◌≤◌, [], ◌∷◌, ◌++◌, map, option_map, OnOk, vec_len, vec_capacity};
+ghost use Rattle.std.specs.Prelude.{◌≡◌, ◌<◌, ◌≤◌, [], ◌∷◌, ◌++◌, length, map, option_map, OnOk, vec_len, vec_capacity};
 ghost use Rattle.spec_records.specs.Records as spec;
 ghost use Rattle.context_records.specs.View.{context_view, record_view};
 ghost use Rattle.context_cache.specs.Mirror.{IsMirror, fact_of, held_at};
@@ -12,7 +12,7 @@ use n32_values::NoMemory;
 use std::alloc::Global;
 
 // The context that the record of this number opened.
-pub(crate) fn opened_at(records: &[Record], number: Option<u64>) -> Option<&Context>
+pub(crate) fn opened_at(records: &[Record], number: Option<u32>) -> Option<&Context>
     ensures { option_map (λ x. context_view x.now) result ≡ held_at spec.opened_context (map record_view records.now) number }
 {
     match number {
@@ -57,12 +57,13 @@ pub(crate) fn make_room(
 // Adds a record for which there is room.
 pub(crate) fn push_record(records: &mut Vec<Record>, caches: &mut Caches, item: Record)
     requires mirror { IsMirror caches.old (map record_view records.old.items) }
+    requires few { length records.old.items < spec.record_limit }
     requires room { 1 ≤ room_at (spec.node_of (record_view item)) (spec.context_of (record_view item)) caches.old }
     requires spare { vec_len records.old < vec_capacity records.old }
     ensures items { records.new.items ≡ records.old.items ++ item ∷ [] }
     ensures mirror { IsMirror caches.new (map record_view records.new.items) }
 {
-    let number = records.len() as u64;
+    let number = records.len() as u32;
     let fact = fact_now(records.as_slice(), &*caches, &item);
     let (node, id) = name_of(&item);
     caches.note(node.as_str(), id.value, number, fact);

@@ -31,7 +31,7 @@ pub(crate) fn open_context<'a>(
 }
 
 // The keys of the record of this number.
-pub(crate) fn keyed_at(records: &[Record], number: Option<u64>) -> Option<&KeySet>
+pub(crate) fn keyed_at(records: &[Record], number: Option<u32>) -> Option<&KeySet>
     ensures { option_map (λ k. key_set_view k.now) result ≡ held_at keyed_set_of (map record_view records.now) number }
 {
     match number {
@@ -49,12 +49,21 @@ pub(crate) fn delivery(
     id: Hex64,
     kind: Kind,
     message: Hex64,
-) -> Option<u64>
+) -> Option<u32>
     ensures { result ≡ delivery_of (kind_view kind) message.value (known_at node.now id.value caches.now) }
 {
     match kind {
         Kind::Request => caches.delivered_request(node.as_str(), id.value, message.value),
         Kind::Response => caches.delivered_response(node.as_str(), id.value, message.value),
+    }
+}
+
+pub(crate) fn widened(number: Option<u32>) -> Option<u64>
+    ensures { result ≡ number }
+{
+    match number {
+        Some(number) => Some(u64::from(number)),
+        None => None,
     }
 }
 

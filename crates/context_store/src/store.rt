@@ -13,7 +13,7 @@ ghost use Rattle.context_store.specs.Stores.{HasNoBad, IsConsistent, NamesBad};
 use crate::faults::{AddFault, OpenFault};
 use crate::loading::read_records;
 use crate::noting::{make_room, push_record};
-use crate::questions::{delivery, greatest, keyed_at, open_context, seq_with};
+use crate::questions::{delivery, greatest, keyed_at, open_context, seq_with, widened};
 use context_cache::Caches;
 use context_records::{Context, KeySet, Record, record_text};
 use http_message::Kind;
@@ -197,7 +197,7 @@ impl Store {
     pub fn delivered(&self, node: &Text, id: Hex64, kind: Kind, message: Hex64) -> Option<u64>
         ensures { result ≡ spec.delivered_at node.now id.value (kind_view kind) message.value self.now.records }
     {
-        delivery(&self.caches, node, id, kind, message)
+        widened(delivery(&self.caches, node, id, kind, message))
     }
 
     /// The mapping kept with the request that was sent under a message id, `None` exactly where none was.

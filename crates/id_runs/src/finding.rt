@@ -31,7 +31,7 @@ fn find_run<L: Ledger>(runs: &RunList, id: u64, steps: &mut Steps<L>) -> Option<
 
 /// The record's number of an id, `None` exactly where the id isn't there. For every d with 2^d above the number of
 /// runs it takes at most d steps and one more.
-pub fn find_in_runs<L: Ledger>(runs: &RunList, id: u64, steps: &mut Steps<L>) -> Option<u64>
+pub fn find_in_runs<L: Ledger>(runs: &RunList, id: u64, steps: &mut Steps<L>) -> Option<u32>
     ensures number { result ≡ option_map (λ e. e.number) (entry_of id runs.now.entries) }
     ensures cost { (d : ℕ) → length runs.now.runs + 1 ≤ 2 ^ d → steps.new ≤ steps.old + d + 1 }
 {
@@ -48,7 +48,7 @@ pub fn find_mapping<L: Ledger>(runs: &RunList, id: u64, steps: &mut Steps<L>) ->
     Some(runs.mapping_at(i, id, steps))
 }
 
-fn count_number<L: Ledger>(runs: &RunList, id: u64, blank: Blank) -> Option<u64>
+fn count_number<L: Ledger>(runs: &RunList, id: u64, blank: Blank) -> Option<u32>
     requires name { blank.name ≡ L.name }
     requires parts { blank.parts ≡ L.parts }
     requires some { 0 < blank.parts }
@@ -69,7 +69,7 @@ fn count_mapping<L: Ledger>(runs: &RunList, id: u64, blank: Blank) -> Option<Opt
 }
 
 /// What `find_in_runs` answers, for a caller that counts no steps.
-pub fn number_of(runs: &RunList, id: u64) -> Option<u64>
+pub fn number_of(runs: &RunList, id: u64) -> Option<u32>
     ensures { result ≡ option_map (λ e. e.number) (entry_of id runs.now.entries) }
 {
     count_number::<Brand>(runs, id, Blank::new(1))

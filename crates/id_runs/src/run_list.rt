@@ -23,7 +23,7 @@ pub struct Run {
 #[derive(Clone, Copy, Debug, PartialEq, Eq, Drop)]
 pub struct Entry {
     /// The number of its first record.
-    pub number: u64,
+    pub number: u32,
     /// The mapping in that record.
     pub mapping: Option<u32>,
 }
@@ -83,7 +83,7 @@ impl RunList {
     }
 
     /// The record's number of an id in the run of this place, in one step.
-    pub fn record_at<L: Ledger>(&self, i: usize, id: u64, steps: &mut Steps<L>) -> u64
+    pub fn record_at<L: Ledger>(&self, i: usize, id: u64, steps: &mut Steps<L>) -> u32
         requires { IsInRun i id self.now.runs }
         ensures number { Some result ≡ option_map (λ e. e.number) (entry_of id self.now.entries) }
         ensures step { steps.new ≡ steps.old + 1 }
@@ -120,7 +120,7 @@ impl RunList {
     }
 
     /// Adds an id, and changes nothing where it is there. It takes no memory.
-    pub fn add(&mut self, id: u64, number: u64, mapping: Option<u32>)
+    pub fn add(&mut self, id: u64, number: u32, mapping: Option<u32>)
         requires { (1 ≤ self.old.spare) ⊎ IsTrue (is_some (entry_of id self.old.entries)) }
         ensures { self.new.entries ≡ with_entry id (record { number = number; mapping = mapping }) self.old.entries }
     {

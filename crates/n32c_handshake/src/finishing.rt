@@ -19,13 +19,13 @@ use crate::capability::{Capability, has_capability};
 use crate::document::{HandDocument, Selection};
 use crate::fault::{CheckFault, HandFault};
 use crate::hands::Hands;
-use crate::keeping::keep;
+use crate::keeping::keep_opened;
 use crate::policies::agree;
 use crate::read::read_document;
 use crate::starts::{Start, Waiting};
 use crate::suites::has_suite;
 use crate::write::asks_doc;
-use context_records::{Context, Record};
+use context_records::Context;
 use context_store::Store;
 use n32_outside::Keeper;
 use n32_values::{Doc, Hex64, NoMemory, Node, PlmnId, Text};
@@ -236,7 +236,7 @@ fn open<K: Keeper>(
     ensures later { K.faults keeper.old ≤ K.faults keeper.new }
     ensures failed { IsErrOf result HandFault.Keeper → Rose (K.faults keeper.old) (K.faults keeper.new) }
 {
-    let kept = keep(alloc, store, keeper, Record::Opened(context));
+    let kept = keep_opened(alloc, store, keeper, context);
     match kept {
         Ok(()) => {
             hands.remove(at);

@@ -15,13 +15,13 @@ ghost use Rattle.n32c_handshake.specs.Outcome.{Comes};
 use crate::capability::{CapabilityList, chosen};
 use crate::document::{Ask, HandDocument};
 use crate::fault::{CheckFault, HandFault};
-use crate::keeping::keep;
+use crate::keeping::keep_opened;
 use crate::offer::Offer;
 use crate::policies::agree;
 use crate::read::read_document;
 use crate::suites::common_suite;
 use crate::write::{chooses_doc, selects_doc};
-use context_records::{Context, Record};
+use context_records::Context;
 use context_store::Store;
 use n32_outside::Keeper;
 use n32_values::{Doc, Hex64, Node, PlmnId, Text};
@@ -156,7 +156,7 @@ pub fn answer<K: Keeper>(
         Reply::Chose(document) => Ok(Replied::Selected { document }),
         Reply::Opens { document, context } => {
             let id = context.id;
-            keep(alloc, store, keeper, Record::Opened(context))?;
+            keep_opened(alloc, store, keeper, context)?;
             Ok(Replied::Opened { document, id })
         }
     }

@@ -1,5 +1,5 @@
 // Contexts and keys that are handed in.
-ghost use Rattle.std.specs.Prelude.{◌≡◌, ◌≤◌, true, IsErrOf, IsTrue};
+ghost use Rattle.std.specs.Prelude.{◌≡◌, ◌≤◌, true, codes, IsErrOf, IsTrue};
 ghost use Rattle.n32_outside.specs.Causes.{Rose};
 ghost use Rattle.spec_documents.specs.Text.{is_node_name};
 ghost use Rattle.spec_records.specs.Records as records;
@@ -86,6 +86,48 @@ fn put_record<K: Keeper>(
     }
 }
 
+// Puts the record of a context that opens, over a fresh store.
+fn put_opened<K: Keeper>(
+    alloc: Global,
+    world: &mut World,
+    keeper: &mut K,
+    number: u64,
+    context: Context,
+) -> Result<Bytes, Unanswered>
+    requires ready { IsReady (K.held keeper.old) world.old }
+    requires fresh { world.old.store.fresh ≡ true }
+    requires names { IsTrue (is_well_named (records.Opened (context_view context))) }
+    ensures { Handles (puts_record (codes "context") (records.Opened (context_view context)))
+        (K.held keeper.old) (K.held keeper.new) (K.faults keeper.old) (K.faults keeper.new) world.old world.new number result }
+{
+    match Record::of_context(alloc, context) {
+        Ok(item) => put_record(alloc, world, keeper, number, "context", item),
+        Err(_) => Err(Unanswered::NoMemory),
+    }
+}
+
+// Puts the record of a context's keys, over a fresh store.
+fn put_keys<K: Keeper>(
+    alloc: Global,
+    world: &mut World,
+    keeper: &mut K,
+    number: u64,
+    node: Text,
+    id: Hex64,
+    keys: KeySet,
+) -> Result<Bytes, Unanswered>
+    requires ready { IsReady (K.held keeper.old) world.old }
+    requires fresh { world.old.store.fresh ≡ true }
+    requires name { IsTrue (is_node_name node) }
+    ensures { Handles (puts_record (codes "keys") (records.Keyed node id.value (key_set_view keys)))
+        (K.held keeper.old) (K.held keeper.new) (K.faults keeper.old) (K.faults keeper.new) world.old world.new number result }
+{
+    match Record::of_keys(alloc, node, id, keys) {
+        Ok(item) => put_record(alloc, world, keeper, number, "keys", item),
+        Err(_) => Err(Unanswered::NoMemory),
+    }
+}
+
 // Opens a context whose id isn't used.
 fn open_context<K: Keeper>(
     alloc: Global,
@@ -103,14 +145,7 @@ fn open_context<K: Keeper>(
     if world.store.used(&context.node, context.id) {
         return Err(Unanswered::Refused(Refusal::ContextUsed));
     }
-    put_record(
-        alloc,
-        world,
-        keeper,
-        number,
-        "context",
-        Record::Opened(context),
-    )
+    put_opened(alloc, world, keeper, number, context)
 }
 
 /// A context is handed in.
@@ -174,10 +209,7 @@ fn record_keys<K: Keeper>(
         (K.held keeper.old) (K.held keeper.new) (K.faults keeper.old) (K.faults keeper.new) world.old world.new number result }
 {
     match check_keys(&world.store, &node, id, &keys) {
-        Ok(()) => {
-            let item = Record::Keyed { node, id, keys };
-            put_record(alloc, world, keeper, number, "keys", item)
-        }
+        Ok(()) => put_keys(alloc, world, keeper, number, node, id, keys),
         Err(why) => Err(why),
     }
 }

@@ -30,22 +30,22 @@ returns-in_err-document-clause-replies g c =
     (record { told = e.same; holds = e.consistent e.fresh; few = e.few; fresh = e.fresh; same = λ f. (e.idle f).1 })
     (subst (λ t. Tells (told c.in_err-document.field-0.0) (replies c.refresh.new.self.records c.args.node.now c.args.plmn.now (offer_view c.args.offer) t)) c.node.ensures.value c.in_err-document.ensures.checks))
 
-pub returns-in_err-keep-in-Opens-clause-replies : goal.returns-in_err-keep-in-Opens-clause-replies
-returns-in_err-keep-in-Opens-clause-replies g c =
-    let p = err_from_is_err_and c.from_residual-in_err-keep-in-Opens.result c.from_residual-in_err-keep-in-Opens.ensures.1 in
+pub returns-in_err-keep_opened-in-Opens-clause-replies : goal.returns-in_err-keep_opened-in-Opens-clause-replies
+returns-in_err-keep_opened-in-Opens-clause-replies g c =
+    let p = err_from_is_err_and c.from_residual-in_err-keep_opened-in-Opens.result c.from_residual-in_err-keep_opened-in-Opens.ensures.1 in
     let e = c.in_ok-refresh.ensures in
     let there = subst (λ x. RepliesOut c.refresh.new.self.records (replies c.refresh.new.self.records c.args.node.now c.args.plmn.now (offer_view c.args.offer) (tree_of c.node.result.now)) (Ok x)) c.in-Opens.is c.in_ok-document.ensures.checks in
     let k = subst (λ t. RepliesOut c.refresh.new.self.records (replies c.refresh.new.self.records c.args.node.now c.args.plmn.now (offer_view c.args.offer) t) (Ok (reply.Opens c.in-Opens.document c.in-Opens.context))) c.node.ensures.value there in
-    rw (p.1, p.2) (put IsReplied (λ (records : List Record). replies records c.args.node.now c.args.plmn.now (offer_view c.args.offer) c.args.document.now) put_reply (g.K.Keeper.held c.args.keeper.now) (g.K.Keeper.held c.refresh.new.keeper) (g.K.Keeper.held c.keep.new.keeper) c.args.store.now c.refresh.new.self c.keep.new.store (replied.Opened c.in-Opens.document c.in-Opens.context.id) (OpenedBy k.0 (context_view c.in-Opens.context)) (Opened (context_view c.in-Opens.context)) (OpenedBy k.0 (context_view c.in-Opens.context)) (Err c.in_err-keep-in-Opens.field-0.0)
-    (record { told = e.same; holds = e.consistent e.fresh; few = e.few; fresh = e.fresh; same = λ f. (e.idle f).1 }) k.1 (λ q. refl) (k.2, refl) c.in_err-keep-in-Opens.ensures.keeps)
+    rw (p.1, p.2) (put IsReplied (λ (records : List Record). replies records c.args.node.now c.args.plmn.now (offer_view c.args.offer) c.args.document.now) put_reply (g.K.Keeper.held c.args.keeper.now) (g.K.Keeper.held c.refresh.new.keeper) (g.K.Keeper.held c.keep_opened.new.keeper) c.args.store.now c.refresh.new.self c.keep_opened.new.store (replied.Opened c.in-Opens.document c.in-Opens.context.id) (OpenedBy k.0 (context_view c.in-Opens.context)) (Opened (context_view c.in-Opens.context)) (OpenedBy k.0 (context_view c.in-Opens.context)) (Err c.in_err-keep_opened-in-Opens.field-0.0)
+    (record { told = e.same; holds = e.consistent e.fresh; few = e.few; fresh = e.fresh; same = λ f. (e.idle f).1 }) k.1 (λ q. refl) (k.2, refl) c.in_err-keep_opened-in-Opens.ensures.keeps)
 
-pub returns-in_err-keep-in-Opens-clause-last : goal.returns-in_err-keep-in-Opens-clause-last
-returns-in_err-keep-in-Opens-clause-last g c = λ is f.
-    let p = err_from_is_err_and c.from_residual-in_err-keep-in-Opens.result c.from_residual-in_err-keep-in-Opens.ensures.1 in
+pub returns-in_err-keep_opened-in-Opens-clause-last : goal.returns-in_err-keep_opened-in-Opens-clause-last
+returns-in_err-keep_opened-in-Opens-clause-last g c = λ is f.
+    let p = err_from_is_err_and c.from_residual-in_err-keep_opened-in-Opens.result c.from_residual-in_err-keep_opened-in-Opens.ensures.1 in
     let there = subst (λ x. RepliesOut c.refresh.new.self.records (replies c.refresh.new.self.records c.args.node.now c.args.plmn.now (offer_view c.args.offer) (tree_of c.node.result.now)) (Ok x)) c.in-Opens.is c.in_ok-document.ensures.checks in
     let k = subst (λ t. RepliesOut c.refresh.new.self.records (replies c.refresh.new.self.records c.args.node.now c.args.plmn.now (offer_view c.args.offer) t) (Ok (reply.Opens c.in-Opens.document c.in-Opens.context))) c.node.ensures.value there in
-    passed_put (λ (records : List Record). replies records c.args.node.now c.args.plmn.now (offer_view c.args.offer) c.args.document.now) (g.K.Keeper.held c.refresh.new.keeper) (g.K.Keeper.held c.keep.new.keeper) c.args.store.now c.refresh.new.self c.keep.new.store (OpenedBy k.0 (context_view c.in-Opens.context)) (Opened (context_view c.in-Opens.context)) (Err c.in_err-keep-in-Opens.field-0.0)
-    k.1 c.in_err-keep-in-Opens.ensures.keeps (cc (p.1, p.2, is)) (c.in_ok-refresh.ensures.idle f).1
+    passed_put (λ (records : List Record). replies records c.args.node.now c.args.plmn.now (offer_view c.args.offer) c.args.document.now) (g.K.Keeper.held c.refresh.new.keeper) (g.K.Keeper.held c.keep_opened.new.keeper) c.args.store.now c.refresh.new.self c.keep_opened.new.store (OpenedBy k.0 (context_view c.in-Opens.context)) (Opened (context_view c.in-Opens.context)) (Err c.in_err-keep_opened-in-Opens.field-0.0)
+    k.1 c.in_err-keep_opened-in-Opens.ensures.keeps (cc (p.1, p.2, is)) (c.in_ok-refresh.ensures.idle f).1
 
 pub returns-in-Chose-clause-replies : goal.returns-in-Chose-clause-replies
 returns-in-Chose-clause-replies g c =
@@ -55,10 +55,10 @@ returns-in-Chose-clause-replies g c =
     given IsReplied (λ (records : List Record). replies records c.args.node.now c.args.plmn.now (offer_view c.args.offer) c.args.document.now) put_reply (g.K.Keeper.held c.args.keeper.now) (g.K.Keeper.held c.refresh.new.keeper) c.args.store.now c.refresh.new.self (replied.Selected c.in-Chose.document) (Chose k.0) (Chose k.0)
     (record { told = e.same; holds = e.consistent e.fresh; few = e.few; fresh = e.fresh; same = λ f. (e.idle f).1 }) k.1 refl k.2
 
-pub returns-in_ok-keep-in-Opens-clause-replies : goal.returns-in_ok-keep-in-Opens-clause-replies
-returns-in_ok-keep-in-Opens-clause-replies g c =
+pub returns-in_ok-keep_opened-in-Opens-clause-replies : goal.returns-in_ok-keep_opened-in-Opens-clause-replies
+returns-in_ok-keep_opened-in-Opens-clause-replies g c =
     let e = c.in_ok-refresh.ensures in
     let there = subst (λ x. RepliesOut c.refresh.new.self.records (replies c.refresh.new.self.records c.args.node.now c.args.plmn.now (offer_view c.args.offer) (tree_of c.node.result.now)) (Ok x)) c.in-Opens.is c.in_ok-document.ensures.checks in
     let k = subst (λ t. RepliesOut c.refresh.new.self.records (replies c.refresh.new.self.records c.args.node.now c.args.plmn.now (offer_view c.args.offer) t) (Ok (reply.Opens c.in-Opens.document c.in-Opens.context))) c.node.ensures.value there in
-    put IsReplied (λ (records : List Record). replies records c.args.node.now c.args.plmn.now (offer_view c.args.offer) c.args.document.now) put_reply (g.K.Keeper.held c.args.keeper.now) (g.K.Keeper.held c.refresh.new.keeper) (g.K.Keeper.held c.keep.new.keeper) c.args.store.now c.refresh.new.self c.keep.new.store (replied.Opened c.in-Opens.document c.in-Opens.context.id) (OpenedBy k.0 (context_view c.in-Opens.context)) (Opened (context_view c.in-Opens.context)) (OpenedBy k.0 (context_view c.in-Opens.context)) (Ok c.in_ok-keep-in-Opens.field-0)
-    (record { told = e.same; holds = e.consistent e.fresh; few = e.few; fresh = e.fresh; same = λ f. (e.idle f).1 }) k.1 (λ q. refl) (k.2, refl) c.in_ok-keep-in-Opens.ensures.keeps
+    put IsReplied (λ (records : List Record). replies records c.args.node.now c.args.plmn.now (offer_view c.args.offer) c.args.document.now) put_reply (g.K.Keeper.held c.args.keeper.now) (g.K.Keeper.held c.refresh.new.keeper) (g.K.Keeper.held c.keep_opened.new.keeper) c.args.store.now c.refresh.new.self c.keep_opened.new.store (replied.Opened c.in-Opens.document c.in-Opens.context.id) (OpenedBy k.0 (context_view c.in-Opens.context)) (Opened (context_view c.in-Opens.context)) (OpenedBy k.0 (context_view c.in-Opens.context)) (Ok c.in_ok-keep_opened-in-Opens.field-0)
+    (record { told = e.same; holds = e.consistent e.fresh; few = e.few; fresh = e.fresh; same = λ f. (e.idle f).1 }) k.1 (λ q. refl) (k.2, refl) c.in_ok-keep_opened-in-Opens.ensures.keeps

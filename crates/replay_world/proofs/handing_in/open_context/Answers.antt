@@ -21,6 +21,6 @@ returns-then-used g c =
 pub returns : goal.returns
 returns g c =
     let new : records.used c.args.context.node c.args.context.id.value c.args.world.now.store.records ≡ false = cc in
-    handles_fresh (opens_new (context_view c.args.context)) (puts_record (codes "context") (records.Opened (context_view c.args.context))) (g.K.Keeper.held c.args.keeper.now) (g.K.Keeper.held c.put_record.new.keeper) (g.K.Keeper.faults c.args.keeper.now) (g.K.Keeper.faults c.put_record.new.keeper) c.args.world.now c.put_record.new.world c.args.number c.put_record.result
+    handles_fresh (opens_new (context_view c.args.context)) (puts_record (codes "context") (records.Opened (context_view c.args.context))) (g.K.Keeper.held c.args.keeper.now) (g.K.Keeper.held c.put_opened.new.keeper) (g.K.Keeper.faults c.args.keeper.now) (g.K.Keeper.faults c.put_opened.new.keeper) c.args.world.now c.put_opened.new.world c.args.number c.put_opened.result
     c.requires.fresh (λ f. id_is_new (state_of c.args.world.now c.args.world.now.store.records) f (context_view c.args.context) new)
-    c.put_record.ensures
+    c.put_opened.ensures

@@ -12,9 +12,9 @@ use Rattle.replay_world.proofs.handing_in.record_keys.Goals as goal
 
 pub returns-in-Ok : goal.returns-in-Ok
 returns-in-Ok g c =
-    handles_fresh (keys_new c.args.node c.args.id.value (key_set_view c.args.keys)) (puts_record (codes "keys") (records.Keyed c.args.node c.args.id.value (key_set_view c.args.keys))) (g.K.Keeper.held c.args.keeper.now) (g.K.Keeper.held c.put_record.new.keeper) (g.K.Keeper.faults c.args.keeper.now) (g.K.Keeper.faults c.put_record.new.keeper) c.args.world.now c.put_record.new.world c.args.number c.put_record.result
+    handles_fresh (keys_new c.args.node c.args.id.value (key_set_view c.args.keys)) (puts_record (codes "keys") (records.Keyed c.args.node c.args.id.value (key_set_view c.args.keys))) (g.K.Keeper.held c.args.keeper.now) (g.K.Keeper.held c.put_keys.new.keeper) (g.K.Keeper.faults c.args.keeper.now) (g.K.Keeper.faults c.put_keys.new.keeper) c.args.world.now c.put_keys.new.world c.args.number c.put_keys.result
     c.requires.fresh (λ f. records_keys (state_of c.args.world.now c.args.world.now.store.records) f c.args.node c.args.id.value (key_set_view c.args.keys) c.in-Ok.ensures.gives)
-    c.put_record.ensures
+    c.put_keys.ensures
 
 pub returns-in-Err : goal.returns-in-Err
 returns-in-Err g c =

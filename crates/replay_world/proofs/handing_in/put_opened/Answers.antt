@@ -1,0 +1,15 @@
+use Rattle.std.proofs.Common.{refl, codes}
+use Rattle.spec_records.specs.Records as records
+use Rattle.context_records.specs.View.{context_view}
+use Rattle.replay_world.specs.Handing.{puts_record}
+use Rattle.replay_world.proofs.Handling.{alone_memory}
+use Rattle.replay_world.proofs.handing_in.put_opened.Goals as goal
+
+pub put_record-requires-clause-names : goal.put_record-requires-clause-names
+put_record-requires-clause-names g c = rw c.in-Ok.ensures c.requires.names
+
+pub returns-in-Ok : goal.returns-in-Ok
+returns-in-Ok g c = rw c.in-Ok.ensures at c.put_record.ensures
+
+pub returns-in-Err : goal.returns-in-Err
+returns-in-Err g c = alone_memory (puts_record (codes "context") (records.Opened (context_view c.args.context))) c.args.world.now c.args.world.now c.args.number c.requires.ready.sound refl (g.K.Keeper.held c.args.keeper.now) (g.K.Keeper.faults c.args.keeper.now) c.requires.ready.consistent
