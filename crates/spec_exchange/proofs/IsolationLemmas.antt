@@ -2,7 +2,7 @@
 use Rattle.std.proofs.Common.{◌≡◌, suc, ℕ, ◌&&◌, ◌+◌, ◌<◌, ◌≤◌, Bool, true, false, List, [], ◌∷◌, ◌++◌, length, Option, Some, None, is_some, Result, Ok, Err, refl, sym, ap, ap₂, ◌∙◌, subst, cond, arith, length-append, map}
 use Rattle.std.specs.Prelude.{bytes_eq, nat_le, filter, find, slice_get, ◌==◌}
 use Rattle.std.specs.List.{list_any, position_from}
-use Rattle.std.proofs.lemmas.Bool.{lt-leb, eqb-true, and_parts}
+use Rattle.std.proofs.lemmas.Bool.{le-leb, lt-leb, eqb-true, and_parts}
 use Rattle.std.proofs.lemmas.Slice.Eq.{bytes_eq-Decides}
 use Rattle.std.proofs.lemmas.List.Sums.{length-filter, count_by-le-length}
 use Rattle.spec_documents.specs.Tree.{Tree}
@@ -21,7 +21,7 @@ use Rattle.spec_exchange.specs.Calls.{Sealed, Outgoing, Asks, Replies, kind_of_o
 use Rattle.spec_exchange.specs.Runs.{Call, Deliver, Send, Puts, Reply, told, made, reply_of, put_of, after, replies, Event}
 use Rattle.spec_exchange.specs.Isolation.{unnumbered_cause, unnumbered_reply, unnumbered_result, received_id, is_id, concerns, own_events, own_replies}
 use Rattle.spec_exchange.proofs.ChainLemmas.{protected-ok, puts-some}
-use Rattle.spec_exchange.specs.AcceptRefusals.{Refusal, Unasked}
+use Rattle.spec_exchange.specs.AcceptRefusals.{Refusal, Receiving, Unasked}
 use Rattle.spec_exchange.specs.Asked.{asked_for}
 use Rattle.spec_exchange.specs.Screens.{Passes}
 use Rattle.spec_exchange.specs.EntryChecks.{Verifying}
@@ -72,30 +72,53 @@ own-shorter : (node : List ℕ) (id : ℕ) (records : List Record) → length (o
 own-shorter node id records = omega (arith, length-filter (is_of node id) records, count_by-le-length (is_of node id) records)
 
 -- below the limit both lists are
-pub room-own : (node : List ℕ) (id : ℕ) (records : List Record) → length records < record_limit → nat_le record_limit (length records) ≡ nat_le record_limit (length (own node id records))
-room-own node id records short =
+room-own : (node : List ℕ) (id : ℕ) (records : List Record) → (record_limit ≤ length records → ⊥) → nat_le record_limit (length records) ≡ nat_le record_limit (length (own node id records))
+room-own node id records room =
+    let short : length records < record_limit = omega (arith, room) in
     let shorter : length (own node id records) < record_limit = omega (arith, own-shorter node id records) in
     lt-leb record_limit (length records) short ∙ sym (lt-leb record_limit (length (own node id records)) shorter)
 
 -- ---- chains of checks
 
-bind_alike : {A B : Type 0} (r s : Result A Refusal) → r ≡ s → (f g : A → Result B Refusal) → ((x : A) → unnumbered_result (f x) ≡ unnumbered_result (g x)) → unnumbered_result (r >>= f) ≡ unnumbered_result (s >>= g)
+-- P holds of the whole chain, and so of what is left of it
+bind_alike : {A B : Type 0} (P : Result B Refusal → Type 0) (r s : Result A Refusal) → r ≡ s → (f g : A → Result B Refusal) → P (r >>= f) → ((x : A) → P (f x) → unnumbered_result (f x) ≡ unnumbered_result (g x))
+    → unnumbered_result (r >>= f) ≡ unnumbered_result (s >>= g)
 unfolding ◌>>=◌
-bind_alike (Ok x) s e f g h = rw (← e) (h x)
-bind_alike (Err d) s e f g h = rw (← e)
+bind_alike P (Ok x) s e f g p h = rw (← e) (h x p)
+bind_alike P (Err d) s e f g p h = rw (← e)
 
-replay_alike : {B : Type 0} (o p : Option ℕ) → is_some o ≡ is_some p → (f g : Unit {0} → Result B Refusal) → ((u : Unit {0}) → unnumbered_result (f u) ≡ unnumbered_result (g u))
-    → unnumbered_result (stage (none_of (λ r. Replay r) o) >>= f) ≡ unnumbered_result (stage (none_of (λ r. Replay r) p) >>= g)
+replay_alike : {B : Type 0} (P : Result B Refusal → Type 0) (o p : Option ℕ) → is_some o ≡ is_some p → (f g : Unit {0} → Result B Refusal) → P (stage (none_of (λ r. Replay r) o) >>= f)
+    → ((u : Unit {0}) → P (f u) → unnumbered_result (f u) ≡ unnumbered_result (g u)) → unnumbered_result (stage (none_of (λ r. Replay r) o) >>= f) ≡ unnumbered_result (stage (none_of (λ r. Replay r) p) >>= g)
 unfolding ◌>>=◌
-replay_alike None None e f g h = h tt
-replay_alike (Some a) (Some b) e f g h = refl
-replay_alike None (Some b) e f g h = cc
-replay_alike (Some a) None e f g h = cc
+replay_alike P None None e f g q h = h tt q
+replay_alike P (Some a) (Some b) e f g q h = refl
+replay_alike P None (Some b) e f g q h = cc
+replay_alike P (Some a) None e f g q h = cc
 
 pub bind_same : {A B E : Type 0} (r s : Result A E) → r ≡ s → (f g : A → Result B E) → ((x : A) → f x ≡ g x) → (r >>= f) ≡ (s >>= g)
 unfolding ◌>>=◌
 bind_same (Ok x) s e f g h = rw (← e) (h x)
 bind_same (Err d) s e f g h = rw (← e)
+
+bind_under : {A B E : Type 0} (P : Result B E → Type 0) (r s : Result A E) → r ≡ s → (f g : A → Result B E) → P (r >>= f) → ((x : A) → P (f x) → f x ≡ g x) → (r >>= f) ≡ (s >>= g)
+unfolding ◌>>=◌
+bind_under P (Ok x) s e f g p h = rw (← e) (h x p)
+bind_under P (Err d) s e f g p h = rw (← e)
+
+-- ---- the limit on records
+
+-- where no record more may be held, something else is answered than that
+abbrev pub Otherwise : {X E : Type 0} → List Record → (full : E) → Result X E → Type 0
+Otherwise records full r = record_limit ≤ length records → r ≡ Err full → ⊥
+
+pub otherwise_below : {X E : Type 0} (records : List Record) (full : E) (r : Result X E) → length records < record_limit → Otherwise records full r
+otherwise_below records full r short = λ le e. omega arith
+
+-- a last check that doesn't refuse for the limit has room
+has_place : {X E : Type 0} (records : List Record) (full : E) (check : Bool → Result (Unit {0}) E) → check true ≡ Err full → (f : Unit {0} → Result X E)
+    → Otherwise records full (check (nat_le record_limit (length records)) >>= f) → record_limit ≤ length records → ⊥
+unfolding ◌>>=◌
+has_place records full check is f other le = other le (rw (le-leb record_limit (length records) le, is))
 
 pub keyed_context-own : (records : List Record) (node : List ℕ) (id : ℕ) → keyed_context records node id ≡ keyed_context (own node id records) node id
 keyed_context-own records node id =
@@ -112,32 +135,39 @@ asked_for-own : (records : List Record) (node : List ℕ) (id : ℕ) (kind : Kin
 asked_for-own records node id of_request message = refl
 asked_for-own records node id of_response message = bind_same _ _ (ap (λ o. wanted o Unasked) (sym (mapping_sent-own node id message records))) _ _ λ k. refl
 
-isolated_of : (passes : Passes) (v : Verifying) (records : List Record) (node : List ℕ) (d : Received) → length records < record_limit
+isolated_of : (passes : Passes) (v : Verifying) (records : List Record) (node : List ℕ) (d : Received) → Otherwise records (Receiving NoRoom) (first_failed_of passes v records node d)
     → unnumbered_result (first_failed_of passes v records node d) ≡ unnumbered_result (first_failed_of passes v (own node d.context records) node d)
-isolated_of passes v records node d short =
-    bind_alike _ _ (ap stage (keyed_context-own records node d.context)) _ _ λ c.
-    bind_alike _ _ refl _ _ λ plain.
-    replay_alike _ _ (delivered_at-own node d.context d.kind d.message records) _ _ λ u3.
-    bind_alike _ _ (asked_for-own records node d.context d.kind d.message) _ _ λ by.
-    bind_alike _ _ refl _ _ λ m.
-    bind_alike _ _ refl _ _ λ u5.
-    bind_alike _ _ refl _ _ λ p.
-    bind_alike _ _ refl _ _ λ u7.
-    bind_alike _ _ (ap (λ b. stage (unless b NoRoom)) (room-own node d.context records short)) _ _ λ u8.
+isolated_of passes v records node d other =
+    let P : Result Delivery Refusal → Type 0 = λ r. Otherwise records (Receiving NoRoom) r in
+    bind_alike P _ _ (ap stage (keyed_context-own records node d.context)) _ _ other λ c o1.
+    bind_alike P _ _ refl _ _ o1 λ plain o2.
+    replay_alike P _ _ (delivered_at-own node d.context d.kind d.message records) _ _ o2 λ u3 o3.
+    bind_alike P _ _ (asked_for-own records node d.context d.kind d.message) _ _ o3 λ by o4.
+    bind_alike P _ _ refl _ _ o4 λ m o5.
+    bind_alike P _ _ refl _ _ o5 λ u5 o6.
+    bind_alike P _ _ refl _ _ o6 λ p o7.
+    bind_alike P _ _ refl _ _ o7 λ u7 o8.
+    let room = has_place records (Receiving NoRoom) (λ b. stage (unless b NoRoom)) refl _ o8 in
+    bind_alike P _ _ (ap (λ b. stage (unless b NoRoom)) (room-own node d.context records room)) _ _ o8 λ u8 o9.
     refl
 
-received_alike : (r : Result Received (List ℕ)) (id : ℕ) → is_id (received_id r) id ≡ true → (f g : Received → Result Delivery Refusal) → ((d : Received) → d.context ≡ id → unnumbered_result (f d) ≡ unnumbered_result (g d))
-    → unnumbered_result (stage (or_refused Form r) >>= f) ≡ unnumbered_result (stage (or_refused Form r) >>= g)
+received_alike : (P : Result Delivery Refusal → Type 0) (r : Result Received (List ℕ)) (id : ℕ) → is_id (received_id r) id ≡ true → (f g : Received → Result Delivery Refusal) → P (stage (or_refused Form r) >>= f)
+    → ((d : Received) → d.context ≡ id → P (f d) → unnumbered_result (f d) ≡ unnumbered_result (g d)) → unnumbered_result (stage (or_refused Form r) >>= f) ≡ unnumbered_result (stage (or_refused Form r) >>= g)
 unfolding ◌>>=◌
-received_alike (Ok d) id e f g h = h d (eqb-true d.context id e)
-received_alike (Err m) id e f g h = refl
+received_alike P (Ok d) id e f g p h = h d (eqb-true d.context id e) p
+received_alike P (Err m) id e f g p h = refl
+
+-- a document is answered by its context's own records
+pub document_apart : (passes : Passes) (v : Verifying) (records : List Record) (node : List ℕ) (id : ℕ) (t : Tree) → is_id (received_id (received t)) id ≡ true → Otherwise records (Receiving NoRoom) (first_failed passes v records node t)
+    → unnumbered_result (first_failed passes v records node t) ≡ unnumbered_result (first_failed passes v (own node id records) node t)
+document_apart passes v records node id t e other =
+    received_alike (λ r. Otherwise records (Receiving NoRoom) r) (received t) id e _ _ other λ d same o.
+    let P : ℕ → Type 0 = λ i. unnumbered_result (first_failed_of passes v records node d) ≡ unnumbered_result (first_failed_of passes v (own node i records) node d) in
+    subst P same (isolated_of passes v records node d o)
 
 pub isolated_document : (passes : Passes) (v : Verifying) (records : List Record) (node : List ℕ) (id : ℕ) (t : Tree) → is_id (received_id (received t)) id ≡ true → length records < record_limit
     → unnumbered_result (first_failed passes v records node t) ≡ unnumbered_result (first_failed passes v (own node id records) node t)
-isolated_document passes v records node id t e short =
-    received_alike (received t) id e _ _ λ d same.
-    let P : ℕ → Type 0 = λ i. unnumbered_result (first_failed_of passes v records node d) ≡ unnumbered_result (first_failed_of passes v (own node i records) node d) in
-    subst P same (isolated_of passes v records node d short)
+isolated_document passes v records node id t e short = document_apart passes v records node id t e (otherwise_below records _ _ short)
 
 -- ---- a message
 
@@ -149,15 +179,20 @@ mapping_to_send-own (Replies to) x m records node id =
     refl
 
 -- a message is sealed by its context's own records
-pub isolated_message : (records : List Record) (node : List ℕ) (id : ℕ) (o : Outgoing) (m : Message) → length records < record_limit → protected records node id o m ≡ protected (own node id records) node id o m
-isolated_message records node id o m short =
-    bind_same _ _ (ap (λ z. wanted z ContextNotFound) (sym (open_context-own node id records))) _ _ λ x.
-    bind_same _ _ (ap (λ z. wanted z NoKeys) (sym (keys-own node id records))) _ _ λ k.
-    bind_same _ _ (mapping_to_send-own o x m records node id) _ _ λ mapping.
-    bind_same _ _ (ap (λ z. wanted z SeqSpent) (sym (next_seq-own node id (kind_of_outgoing o) records))) _ _ λ seq.
-    bind_same _ _ refl _ _ λ t.
-    bind_same _ _ (ap (λ b. unless b (Beyond many_records)) (room-own node id records short)) _ _ λ u.
+pub message_apart : (records : List Record) (node : List ℕ) (id : ℕ) (o : Outgoing) (m : Message) → Otherwise records (Beyond many_records) (protected records node id o m) → protected records node id o m ≡ protected (own node id records) node id o m
+message_apart records node id o m other =
+    let P : Result Sealed sending.Refusal → Type 0 = λ r. Otherwise records (Beyond many_records) r in
+    bind_under P _ _ (ap (λ z. wanted z ContextNotFound) (sym (open_context-own node id records))) _ _ other λ x o1.
+    bind_under P _ _ (ap (λ z. wanted z NoKeys) (sym (keys-own node id records))) _ _ o1 λ k o2.
+    bind_under P _ _ (mapping_to_send-own o x m records node id) _ _ o2 λ mapping o3.
+    bind_under P _ _ (ap (λ z. wanted z SeqSpent) (sym (next_seq-own node id (kind_of_outgoing o) records))) _ _ o3 λ seq o4.
+    bind_under P _ _ refl _ _ o4 λ t o5.
+    let room = has_place records (Beyond many_records) (λ b. unless b (Beyond many_records)) refl _ o5 in
+    bind_under P _ _ (ap (λ b. unless b (Beyond many_records)) (room-own node id records room)) _ _ o5 λ u o6.
     refl
+
+pub isolated_message : (records : List Record) (node : List ℕ) (id : ℕ) (o : Outgoing) (m : Message) → length records < record_limit → protected records node id o m ≡ protected (own node id records) node id o m
+isolated_message records node id o m short = message_apart records node id o m (otherwise_below records _ _ short)
 
 -- ---- calls
 

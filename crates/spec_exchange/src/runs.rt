@@ -1,6 +1,6 @@
 //! Laws over runs of calls whatever keeper, verifier and screen do in each.
 
-ghost use Rattle.std.specs.Prelude.{◌≡◌, ◌≤◌, ◌+◌, ℕ, List, length, map, true, count_by, Some, slice_get, ◌<◌};
+ghost use Rattle.std.specs.Prelude.{◌≡◌, ◌≤◌, ◌+◌, ℕ, List, length, map, true, count_by, Some, Err, slice_get};
 ghost use Rattle.spec_messages.specs.Message.{Kind, Message};
 ghost use Rattle.spec_records.specs.Records.{Record, record_limit, own, was_delivered, was_sent, delivered_at};
 ghost use Rattle.spec_exchange.specs.Screens.{Passes};
@@ -10,6 +10,10 @@ ghost use Rattle.spec_documents.specs.Tree.{Tree};
 ghost use Rattle.spec_sealing.specs.Received.{received};
 ghost use Rattle.spec_exchange.specs.EntryChecks.{Verifying};
 ghost use Rattle.spec_exchange.specs.Accepting.{first_failed};
+ghost use Rattle.spec_exchange.specs.AcceptRefusals.{Receiving};
+ghost use Rattle.spec_exchange.specs.ReceivingRefusals.{NoRoom};
+ghost use Rattle.spec_exchange.specs.SendingRefusals.{Beyond};
+ghost use Rattle.spec_messages.specs.Limits.{many_records};
 ghost use Rattle.spec_exchange.specs.Calls.{Outgoing, protected};
 
 /// Of each message, a request or a response, at most one event delivers it, and none where it was delivered
@@ -33,10 +37,10 @@ pub fn contexts_apart()
 {}
 
 /// A document and a message to send are answered by the records of their context alone, but for the number of a
-/// replayed message's record, while the limit of records is not met.
+/// replayed message's record, unless the answer over all records is that their limit is met.
 pub fn own_records_decide()
-    ensures document { (passes : Passes) (v : Verifying) (records : List Record) (node : List ℕ) (id : ℕ) (t : Tree) → is_id (received_id (received t)) id ≡ true → length records < record_limit → unnumbered_result (first_failed passes v records node t) ≡ unnumbered_result (first_failed passes v (own node id records) node t) }
-    ensures message { (records : List Record) (node : List ℕ) (id : ℕ) (o : Outgoing) (m : Message) → length records < record_limit → protected records node id o m ≡ protected (own node id records) node id o m }
+    ensures document { (passes : Passes) (v : Verifying) (records : List Record) (node : List ℕ) (id : ℕ) (t : Tree) → is_id (received_id (received t)) id ≡ true → (first_failed passes v records node t ≡ Err (Receiving NoRoom) → ⊥) → unnumbered_result (first_failed passes v records node t) ≡ unnumbered_result (first_failed passes v (own node id records) node t) }
+    ensures message { (records : List Record) (node : List ℕ) (id : ℕ) (o : Outgoing) (m : Message) → (protected records node id o m ≡ Err (Beyond many_records) → ⊥) → protected records node id o m ≡ protected (own node id records) node id o m }
 {}
 
 /// The number with which a replay is refused is that of one record, among all and among the context's own.
