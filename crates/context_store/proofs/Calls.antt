@@ -1,13 +1,13 @@
 -- What a call comes to, from what its parts come to.
-use Rattle.std.proofs.Common.{◌≡◌, ◌⊎◌, ⊎_elim, ℕ, ◌<◌, ◌≤◌, List, [], ◌∷◌, ◌++◌, length, true, false, Option, IfSome, Result, Ok, Err, refl, sym, ap, subst, ◌∙◌}
+use Rattle.std.proofs.Common.{◌≡◌, ◌⊎◌, ⊎_elim, ℕ, ◌<◌, ◌≤◌, List, [], ◌∷◌, ◌++◌, length, Bool, true, false, Option, None, IfSome, Result, Ok, Err, refl, sym, ap, subst, ◌∙◌}
 use Rattle.std.proofs.lemmas.Bool.{lt-leb, le-leb}
 use Rattle.spec_records.specs.Records.{Record, record_limit}
 use Rattle.n32_outside.specs.Contents.{Stays, Gains}
 use Rattle.context_records.specs.Reading.{ReadsRecord, written}
 use Rattle.context_store.specs.Stores.{Stored, Holds, IsFirstBad}
 use Rattle.spec_exchange.specs.Chain.{◌>>=◌}
-use Rattle.spec_exchange.specs.Outside.{Choice, Read, ReadFails, BadRecord, Putting, Kept, Lost, KeptUntold, Journal, Keeper, Cause, Own, Outside, Outcome, puts, behind_reading, or_refusal}
-use Rattle.context_store.specs.Changes.{ComesTo, IsChosen, CallBy, with_room, putting, PutBy}
+use Rattle.spec_exchange.specs.Outside.{Choice, Reading, Read, ReadFails, BadRecord, Putting, Kept, Lost, KeptUntold, Journal, Keeper, Cause, Own, Outside, Outcome, puts, behind_reading, or_refusal, with_put}
+use Rattle.context_store.specs.Changes.{Nothing, ComesTo, IsChosen, CallBy, AddsOwn, with_room, putting, PutBy}
 
 -- a call that checks over the records, once they are read, and puts the record of what passes
 abbrev pub checked : {X R : Type 0} → (List Record → Result X R) → (X → Record) → Choice → List Record → Outcome R X
@@ -131,3 +131,30 @@ put e checks item Answers held mid now old read new x h is_read is = record {
   comes = subst (λ w. ComesTo Answers held now read.records new (or_refusal w (λ x. puts h.choice (item x) x))) (sym is)
       (subst (λ z. ComesTo Answers z now read.records new (putting e item read.records x h.choice)) is_read.told h.comes);
 }
+
+-- ---- what a call tells of its checks and its record
+
+-- what isn't the answer is no refusal of the checks
+pub not_refused : {X R : Type 0} (item : X → Record) (Answers : Result X (Cause R) → Type 0) (held now : Option (List (List ℕ))) (records : List Record) (new : Stored) (p : Putting) (r : Result X R) (e : R)
+    → (Answers (Err (Own e)) → ⊥) → ComesTo Answers held now records new (or_refusal r (λ x. puts p (item x) x)) → r ≡ Err e → ⊥
+not_refused item Answers held now records new p (Ok x) e other c is = cc
+not_refused item Answers held now records new p (Err d) e other c is = let same : d ≡ e = cc in other (subst (λ z. Answers (Err (Own z))) same c.answer)
+
+put_own : {X R : Type 0} (is_own : Record → Bool) (item : X → Record) (reading : Reading) (p : Putting) (r : Result X R) → ((x : X) → r ≡ Ok x → is_own (item x) ≡ true)
+    → IfSome (behind_reading reading (or_refusal r (λ x. puts p (item x) x))).put (λ z. is_own z ≡ true)
+put_own is_own item Read Kept (Ok x) own = own x refl
+put_own is_own item Read Lost (Ok x) own = tt
+put_own is_own item Read KeptUntold (Ok x) own = own x refl
+put_own is_own item Read p (Err e) own = tt
+put_own is_own item ReadFails p r own = tt
+put_own is_own item (BadRecord k) p r own = tt
+
+-- where the record of all that passes the checks is of the test, so is that which is held more
+pub adds_own : {X R : Type 0} (is_own : Record → Bool) (checks : List Record → Result X R) (item : X → Record) (Answers : Result X (Cause R) → Type 0) (held now : Option (List (List ℕ))) (old new : Stored)
+    → ((records : List Record) (x : X) → checks records ≡ Ok x → is_own (item x) ≡ true) → CallBy (checked checks item) Answers held now old new → AddsOwn is_own held now old new
+adds_own is_own checks item Answers held now old new own c =
+    let added : Option Record = (checked checks item c.choice c.records).put in
+    (added, put_own is_own item c.choice.reading c.choice.putting (checks c.records) (own c.records), c.comes.change.told, λ f g. c.comes.change.kept g ∙ ap (λ (rs : List Record). with_put rs added) (c.chosen.fresh f).1)
+
+pub adds_nothing : (is_own : Record → Bool) (held now : Option (List (List ℕ))) (old new : Stored) → Nothing held now old new → AddsOwn is_own held now old new
+adds_nothing is_own held now old new h = (None, tt, h.told, λ f g. ap (λ (z : Stored). z.records) (h.kept f))

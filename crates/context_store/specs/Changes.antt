@@ -55,6 +55,12 @@ pub record CallBy {X R : Type 0} (outcome : Choice → List Record → Outcome R
   pub few : old.fresh ≡ true → length records ≤ record_limit
   pub comes : ComesTo Answers held now records new (outcome choice records)
 
+-- what is held more, if anything, is a record of this test
+abbrev pub AddsOwn : (is_own : Record → Bool) (held now : Option (List (List ℕ))) (old new : Stored) → Type 0
+AddsOwn is_own held now old new =
+    (put : Option Record) × IfSome put (λ r. is_own r ≡ true)
+    × Keeps held now put × (old.fresh ≡ true → new.fresh ≡ true → new.records ≡ with_put old.records put)
+
 -- ---- the put
 
 -- where there is room for one more record, and else this refusal

@@ -1,14 +1,14 @@
 // Accepting a document.
-ghost use Rattle.std.specs.Prelude.{◌≡◌, ◌<◌, ◌≤◌, [], length, true, IfOk, IsErrOf, IsOk, Ok};
-ghost use Rattle.spec_records.specs.Records.{record_limit};
+ghost use Rattle.std.specs.Prelude.{◌≡◌, ◌≤◌, [], true, IfOk, IsErrOf, IsOk, Ok};
 ghost use Rattle.n32_outside.specs.Causes.{Rose};
 ghost use Rattle.context_store.specs.Stores.{IsConsistent};
+ghost use Rattle.context_store.specs.Changes.{AddsOwn};
 ghost use Rattle.spec_sealing.specs.Received.{Received, received};
 ghost use Rattle.spec_exchange.specs.Accepting.{first_failed};
 ghost use Rattle.entry_checks.specs.Verifiers.{UnderVerifier};
 ghost use Rattle.message_screens.specs.Screening.{IsScreen, rule_of};
 ghost use Rattle.receiving_sepp.specs.Outcome.{Accepts, IsOfVerifier, IsPatched};
-ghost use Rattle.receiving_sepp.specs.Apart.{AcceptsApart, AddsOwn};
+ghost use Rattle.receiving_sepp.specs.Apart.{AcceptsApart, IsFull, is_for};
 
 use crate::checks::check;
 use crate::delivery::{Delivered, deliver};
@@ -33,9 +33,8 @@ use std::alloc::Global;
 /// nothing more is held, and the store has all records that are held. What is delivered is the opened message,
 /// as its entries leave it, and patching commutes with filling for it.
 ///
-/// Contexts are isolated: the answer is that over the records of the document's context alone, but for the
-/// number of a replayed message's record, as long as there is room for a record after the call; and only a record
-/// of that context is put.
+/// Contexts are isolated: an answer other than `Limit` is that over the records of the document's context alone,
+/// but for the number of a replayed message's record; and only a record of that context is put.
 pub fn accept<K: Keeper, V: Verifier, R: ScreenRule, F: Fn(&Message, &PlmnId) -> bool>(
     alloc: Global,
     store: &mut Store,
@@ -60,9 +59,9 @@ pub fn accept<K: Keeper, V: Verifier, R: ScreenRule, F: Fn(&Message, &PlmnId) ->
         (λ v. IsOk (first_failed (R.passes (rule_of screen.now)) v store.old.records node.now document.now)) }
     ensures commutes { IfOk result (λ x. UnderVerifier (V.meaning verifier.old) (V.faults verifier.old) (V.faults verifier.new)
         (λ v. IsPatched (R.passes (rule_of screen.now)) v store.new node.now document.now x)) }
-    ensures apart { (d : Received) → received document.now ≡ Ok d → length store.new.records < record_limit → UnderVerifier (V.meaning verifier.old) (V.faults verifier.old) (V.faults verifier.new)
+    ensures apart { (d : Received) → received document.now ≡ Ok d → (IsFull result → ⊥) → UnderVerifier (V.meaning verifier.old) (V.faults verifier.old) (V.faults verifier.new)
         (λ v. AcceptsApart (R.passes (rule_of screen.now)) v (K.held keeper.old) (K.held keeper.new) store.old store.new node.now d.context document.now result) }
-    ensures own { AddsOwn (K.held keeper.old) (K.held keeper.new) store.old store.new node.now document.now }
+    ensures own { AddsOwn (is_for node.now document.now) (K.held keeper.old) (K.held keeper.new) store.old store.new }
     ensures unasked { (d : Received) → received document.now ≡ Ok d → d.entries ≡ [] → verifier.new ≡ verifier.old }
 {
     verifier_failure_is_one();

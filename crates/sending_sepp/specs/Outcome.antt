@@ -1,22 +1,24 @@
 -- What sending a message comes to: the answer, and what is held after it.
-use Rattle.std.specs.Prelude.{◌≡◌, ⊤, ℕ, List, true, Option, Result, Ok, Err, IfSome}
+use Rattle.std.specs.Prelude.{◌≡◌, ⊤, ℕ, List, Option, Result, Ok, Err}
 use Rattle.spec_documents.specs.Tree.{Tree}
 use Rattle.spec_documents.specs.Gives.{Tells}
 use Rattle.spec_messages.specs.Message.{Message}
-use Rattle.spec_records.specs.Records.{Record, is_of, own}
+use Rattle.spec_records.specs.Records.{Record, own}
 use Rattle.context_store.specs.Stores.{Stored}
 use Rattle.context_store.specs.declared.call_faults.CheckFault.{CheckFault}
 use Rattle.context_store.specs.declared.call_faults.CallFault.{CallFault}
 use Rattle.context_store.specs.declared.call_faults.CallFault.TheVariants as protecting
-use Rattle.context_store.specs.Changes.{Nothing, Keeps, CallBy, with_room, PutBy}
+use Rattle.context_store.specs.Changes.{Nothing, CallBy, with_room, PutBy}
+use Rattle.block_forms.specs.declared.fault.LimitName.TheVariants as limits
 use Rattle.spec_messages.specs.Limits.{many_records}
 use Rattle.spec_exchange.specs.SendingRefusals.{Refusal, Beyond}
-use Rattle.spec_exchange.specs.Outside.{Cause, with_put}
+use Rattle.spec_exchange.specs.Outside.{Cause}
 use Rattle.spec_exchange.specs.Calls.{Outgoing, Asks, Sealed, kind_of_outgoing, message_id, sent_record, protected, sends}
 use Rattle.sending_sepp.specs.Outgoings.{outgoing_view}
 use Rattle.sending_sepp.specs.Sending.{told, told_cause}
 use Rattle.sending_sepp.specs.declared.checks.Checked.{Checked}
 use Rattle.sending_sepp.specs.declared.fault.SendFault.{SendFault}
+use Rattle.sending_sepp.specs.declared.fault.SendFault.TheVariants as faults
 
 -- ---- sending
 
@@ -36,16 +38,14 @@ Protects = ProtectsAs Asks
 
 -- ---- the context that it is of
 
+-- the answer is that no record more may be held
+abbrev pub IsFull : Result Tree (CallFault SendFault) → Type 0
+IsFull result = result ≡ Err (protecting.Refused (faults.Limit limits.Records))
+
 -- the answer is that over the records of this context alone, and the record that is put there is put
 abbrev pub ProtectsApart : Outgoing → (held now : Option (List (List ℕ))) (old new : Stored) (node : List ℕ) (id : ℕ) → Message → Result Tree (CallFault SendFault) → Type 0
 ProtectsApart o held now old new node id m (Err protecting.NoMemory) = ⊤
 ProtectsApart o held now old new node id m result = CallBy (λ f records. sends f (own node id records) node id o m) (Answers result) held now old new
-
--- what is held more, if anything, is a record of this context
-abbrev pub AddsOwn : (held now : Option (List (List ℕ))) (old new : Stored) (node : List ℕ) (id : ℕ) → Type 0
-AddsOwn held now old new node id =
-    (put : Option Record) × IfSome put (λ r. is_of node id r ≡ true)
-    × Keeps held now put × (old.fresh ≡ true → new.fresh ≡ true → new.records ≡ with_put old.records put)
 
 -- ---- its parts
 

@@ -1,12 +1,13 @@
 // Sending a message.
-ghost use Rattle.std.specs.Prelude.{◌≡◌, ◌<◌, ◌≤◌, length, true, IsTrue, IsErrOf, IsOk};
+ghost use Rattle.std.specs.Prelude.{◌≡◌, ◌≤◌, true, IsTrue, IsErrOf, IsOk};
 ghost use Rattle.spec_messages.specs.Message.{is_whole, body_depth, kind_of, of_request, of_response};
-ghost use Rattle.spec_records.specs.Records.{record_limit};
+ghost use Rattle.spec_records.specs.Records.{is_of};
 ghost use Rattle.n32_outside.specs.Causes.{Rose};
 ghost use Rattle.http_message.specs.Reading.{message_view};
 ghost use Rattle.context_store.specs.Stores.{IsConsistent};
+ghost use Rattle.context_store.specs.Changes.{AddsOwn};
 ghost use Rattle.spec_exchange.specs.Calls.{Asks, Replies, protected};
-ghost use Rattle.sending_sepp.specs.Outcome.{AddsOwn, Protects, ProtectsApart, ProtectsAs};
+ghost use Rattle.sending_sepp.specs.Outcome.{IsFull, Protects, ProtectsApart, ProtectsAs};
 ghost use Rattle.sending_sepp.specs.Outgoings.{outgoing_view};
 
 use crate::checks::check;
@@ -37,8 +38,8 @@ fn protect_as<K: Keeper>(
     ensures later { K.faults keeper.old ≤ K.faults keeper.new }
     ensures failed { IsErrOf result CallFault.Keeper → Rose (K.faults keeper.old) (K.faults keeper.new) }
     ensures last { IsErrOf result CallFault.Keeper → store.old.fresh ≡ true → IsOk (protected store.old.records node.now id.value (outgoing_view outgoing) (message_view message.now)) }
-    ensures apart { length store.new.records < record_limit → ProtectsApart (outgoing_view outgoing) (K.held keeper.old) (K.held keeper.new) store.old store.new node.now id.value (message_view message.now) result }
-    ensures own { AddsOwn (K.held keeper.old) (K.held keeper.new) store.old store.new node.now id.value }
+    ensures apart { (IsFull result → ⊥) → ProtectsApart (outgoing_view outgoing) (K.held keeper.old) (K.held keeper.new) store.old store.new node.now id.value (message_view message.now) result }
+    ensures own { AddsOwn (is_of node.now id.value) (K.held keeper.old) (K.held keeper.new) store.old store.new }
 {
     store.refresh(alloc, keeper)?;
     let checked = check(alloc, store, node, id, outgoing, message)?;
@@ -56,8 +57,8 @@ fn protect_as<K: Keeper>(
 /// not. `Journal` comes only where a stale store is read. After any other refusal nothing more is held, and the
 /// store has all records that are held.
 ///
-/// Contexts are isolated: the answer is that over the context's own records alone, as long as there is room for a
-/// record after the call; and only a record of that context is put.
+/// Contexts are isolated: an answer other than `Limit` of `Records` is that over the context's own records alone;
+/// and only a record of that context is put.
 pub fn protect<K: Keeper>(
     alloc: Global,
     store: &mut Store,
@@ -75,8 +76,8 @@ pub fn protect<K: Keeper>(
     ensures later { K.faults keeper.old ≤ K.faults keeper.new }
     ensures failed { IsErrOf result CallFault.Keeper → Rose (K.faults keeper.old) (K.faults keeper.new) }
     ensures last { IsErrOf result CallFault.Keeper → store.old.fresh ≡ true → IsOk (protected store.old.records node.now id.value Asks (message_view request.now)) }
-    ensures apart { length store.new.records < record_limit → ProtectsApart Asks (K.held keeper.old) (K.held keeper.new) store.old store.new node.now id.value (message_view request.now) result }
-    ensures own { AddsOwn (K.held keeper.old) (K.held keeper.new) store.old store.new node.now id.value }
+    ensures apart { (IsFull result → ⊥) → ProtectsApart Asks (K.held keeper.old) (K.held keeper.new) store.old store.new node.now id.value (message_view request.now) result }
+    ensures own { AddsOwn (is_of node.now id.value) (K.held keeper.old) (K.held keeper.new) store.old store.new }
 {
     protect_as(alloc, store, keeper, node, id, Outgoing::Asks, request)
 }
@@ -107,8 +108,8 @@ pub fn protect_reply<K: Keeper>(
     ensures later { K.faults keeper.old ≤ K.faults keeper.new }
     ensures failed { IsErrOf result CallFault.Keeper → Rose (K.faults keeper.old) (K.faults keeper.new) }
     ensures last { IsErrOf result CallFault.Keeper → store.old.fresh ≡ true → IsOk (protected store.old.records node.now id.value (Replies answers.value) (message_view response.now)) }
-    ensures apart { length store.new.records < record_limit → ProtectsApart (Replies answers.value) (K.held keeper.old) (K.held keeper.new) store.old store.new node.now id.value (message_view response.now) result }
-    ensures own { AddsOwn (K.held keeper.old) (K.held keeper.new) store.old store.new node.now id.value }
+    ensures apart { (IsFull result → ⊥) → ProtectsApart (Replies answers.value) (K.held keeper.old) (K.held keeper.new) store.old store.new node.now id.value (message_view response.now) result }
+    ensures own { AddsOwn (is_of node.now id.value) (K.held keeper.old) (K.held keeper.new) store.old store.new }
 {
     protect_as(
         alloc,

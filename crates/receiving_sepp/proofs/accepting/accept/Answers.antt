@@ -64,19 +64,19 @@ returns-clause-commutes g c =
     (g.V.Verifier.meaning c.args.verifier.now) (g.V.Verifier.faults c.args.verifier.now) (g.V.Verifier.faults c.check.new.verifier) c.deliver.result c.deliver.ensures.delivers c.in_ok-checked.ensures.ordered c.in_ok-checked.ensures.checks
 
 pub returns-in_err-refresh-clause-apart : goal.returns-in_err-refresh-clause-apart
-returns-in_err-refresh-clause-apart g c = λ d e room.
+returns-in_err-refresh-clause-apart g c = λ d e other.
     apart (g.R.ScreenRule.passes (rule_of c.args.screen.now)) (g.V.Verifier.meaning c.args.verifier.now) (g.V.Verifier.faults c.args.verifier.now) (g.V.Verifier.faults c.args.verifier.now) (g.K.Keeper.held c.args.keeper.now) (g.K.Keeper.held c.refresh.new.keeper) c.args.store.now c.refresh.new.self c.args.node.now c.args.document.now c.from_residual.result
-    d e room (returns-in_err-refresh-clause-accepts g c)
+    d e other (returns-in_err-refresh-clause-accepts g c)
 
 pub returns-in_err-checked-clause-apart : goal.returns-in_err-checked-clause-apart
-returns-in_err-checked-clause-apart g c = λ d e room.
+returns-in_err-checked-clause-apart g c = λ d e other.
     apart (g.R.ScreenRule.passes (rule_of c.args.screen.now)) (g.V.Verifier.meaning c.args.verifier.now) (g.V.Verifier.faults c.args.verifier.now) (g.V.Verifier.faults c.check.new.verifier) (g.K.Keeper.held c.args.keeper.now) (g.K.Keeper.held c.refresh.new.keeper) c.args.store.now c.refresh.new.self c.args.node.now c.args.document.now c.from_residual-in_err-checked.result
-    d e room (returns-in_err-checked-clause-accepts g c)
+    d e other (returns-in_err-checked-clause-accepts g c)
 
 pub returns-clause-apart : goal.returns-clause-apart
-returns-clause-apart g c = λ d e room.
+returns-clause-apart g c = λ d e other.
     apart (g.R.ScreenRule.passes (rule_of c.args.screen.now)) (g.V.Verifier.meaning c.args.verifier.now) (g.V.Verifier.faults c.args.verifier.now) (g.V.Verifier.faults c.check.new.verifier) (g.K.Keeper.held c.args.keeper.now) (g.K.Keeper.held c.deliver.new.keeper) c.args.store.now c.deliver.new.store c.args.node.now c.args.document.now c.deliver.result
-    d e room (returns-clause-accepts g c)
+    d e other (returns-clause-accepts g c)
 
 pub returns-in_err-refresh-clause-own : goal.returns-in_err-refresh-clause-own
 returns-in_err-refresh-clause-own g c =

@@ -4,7 +4,7 @@ use Rattle.std.proofs.lemmas.Bool.{false_from_ne_true}
 use Rattle.http_message.specs.Reading.{message_view}
 use Rattle.sending_sepp.specs.Outgoings.{outgoing_view}
 use Rattle.sending_sepp.specs.Outcome.{sealed_view}
-use Rattle.sending_sepp.proofs.Apart.{apart, adds_own}
+use Rattle.sending_sepp.proofs.Apart.{apart, own_put}
 use Rattle.sending_sepp.proofs.Outcomes.{unread, unchecked, sent, passed, no_keeper}
 use Rattle.sending_sepp.proofs.sending.protect_as.Goals as goal
 
@@ -46,31 +46,31 @@ returns-clause-last g c = λ is f.
     rw (← same) (passed (outgoing_view c.args.outgoing) c.refresh.new.self.records c.args.node.now c.args.id.value (message_view c.args.message.now) (sealed_view c.args.node.now c.args.id.value c.in_ok-checked.checked) (c.record_sent.ensures.room is) c.in_ok-checked.ensures.checks)
 
 pub returns-in_err-refresh-clause-apart : goal.returns-in_err-refresh-clause-apart
-returns-in_err-refresh-clause-apart g c = λ room.
+returns-in_err-refresh-clause-apart g c = λ other.
     apart (outgoing_view c.args.outgoing) (g.K.Keeper.held c.args.keeper.now) (g.K.Keeper.held c.refresh.new.keeper) c.args.store.now c.refresh.new.self c.args.node.now c.args.id.value (message_view c.args.message.now) c.from_residual.result
-    room (returns-in_err-refresh-clause-protects g c)
+    other (returns-in_err-refresh-clause-protects g c)
 
 pub returns-in_err-checked-clause-apart : goal.returns-in_err-checked-clause-apart
-returns-in_err-checked-clause-apart g c = λ room.
+returns-in_err-checked-clause-apart g c = λ other.
     apart (outgoing_view c.args.outgoing) (g.K.Keeper.held c.args.keeper.now) (g.K.Keeper.held c.refresh.new.keeper) c.args.store.now c.refresh.new.self c.args.node.now c.args.id.value (message_view c.args.message.now) c.from_residual-in_err-checked.result
-    room (returns-in_err-checked-clause-protects g c)
+    other (returns-in_err-checked-clause-protects g c)
 
 pub returns-clause-apart : goal.returns-clause-apart
-returns-clause-apart g c = λ room.
+returns-clause-apart g c = λ other.
     apart (outgoing_view c.args.outgoing) (g.K.Keeper.held c.args.keeper.now) (g.K.Keeper.held c.record_sent.new.keeper) c.args.store.now c.record_sent.new.store c.args.node.now c.args.id.value (message_view c.args.message.now) c.record_sent.result
-    room (returns-clause-protects g c)
+    other (returns-clause-protects g c)
 
 pub returns-in_err-refresh-clause-own : goal.returns-in_err-refresh-clause-own
 returns-in_err-refresh-clause-own g c =
-    adds_own (outgoing_view c.args.outgoing) (g.K.Keeper.held c.args.keeper.now) (g.K.Keeper.held c.refresh.new.keeper) c.args.store.now c.refresh.new.self c.args.node.now c.args.id.value (message_view c.args.message.now) c.from_residual.result
+    own_put (outgoing_view c.args.outgoing) (g.K.Keeper.held c.args.keeper.now) (g.K.Keeper.held c.refresh.new.keeper) c.args.store.now c.refresh.new.self c.args.node.now c.args.id.value (message_view c.args.message.now) c.from_residual.result
     (returns-in_err-refresh-clause-protects g c)
 
 pub returns-in_err-checked-clause-own : goal.returns-in_err-checked-clause-own
 returns-in_err-checked-clause-own g c =
-    adds_own (outgoing_view c.args.outgoing) (g.K.Keeper.held c.args.keeper.now) (g.K.Keeper.held c.refresh.new.keeper) c.args.store.now c.refresh.new.self c.args.node.now c.args.id.value (message_view c.args.message.now) c.from_residual-in_err-checked.result
+    own_put (outgoing_view c.args.outgoing) (g.K.Keeper.held c.args.keeper.now) (g.K.Keeper.held c.refresh.new.keeper) c.args.store.now c.refresh.new.self c.args.node.now c.args.id.value (message_view c.args.message.now) c.from_residual-in_err-checked.result
     (returns-in_err-checked-clause-protects g c)
 
 pub returns-clause-own : goal.returns-clause-own
 returns-clause-own g c =
-    adds_own (outgoing_view c.args.outgoing) (g.K.Keeper.held c.args.keeper.now) (g.K.Keeper.held c.record_sent.new.keeper) c.args.store.now c.record_sent.new.store c.args.node.now c.args.id.value (message_view c.args.message.now) c.record_sent.result
+    own_put (outgoing_view c.args.outgoing) (g.K.Keeper.held c.args.keeper.now) (g.K.Keeper.held c.record_sent.new.keeper) c.args.store.now c.record_sent.new.store c.args.node.now c.args.id.value (message_view c.args.message.now) c.record_sent.result
     (returns-clause-protects g c)
