@@ -192,7 +192,7 @@ def check_rows():
     rows = set(re.findall(r"^\| (\d+) \| `([A-Z_0-9]+)`", read("docs/REFUSALS.md"), re.M))
     refusals = set()
     sources = ["entry_checks/src/refused.rt", "receiving_sepp/src/refused.rt", "sending_sepp/src/fault.rt"]
-    for name in sources + ["script_lines/src/refusal.rt", "script_lines/src/hand_refusal.rt"]:
+    for name in sources + ["n32c_handshake/src/refusal.rt", "script_lines/src/refusal.rt"]:
         refusals |= pairs(read(os.path.join("crates", name)))
     for number, name in sorted(refusals ^ rows):
         fail(f"docs/REFUSALS.md: {number} {name} is a row or a refusal, and not both")

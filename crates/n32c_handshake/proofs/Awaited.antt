@@ -6,15 +6,16 @@ use Rattle.spec_documents.specs.Chain.{◌>>=◌, unless, none_of}
 use Rattle.spec_documents.specs.Gives.{Tells}
 use Rattle.spec_messages.specs.Message.{wanted}
 use Rattle.spec_records.specs.Records.{Record}
+use Rattle.context_store.specs.declared.call_faults.CheckFault.{CheckFault}
+use Rattle.context_store.specs.declared.call_faults.CheckFault.TheVariants as checking
 use Rattle.spec_handshake.specs.Documents.{Capability, Selection, Chooses, Selects}
 use Rattle.spec_handshake.specs.Differences.{Difference, difference}
 use Rattle.spec_handshake.specs.Refusals.{Refusal, NotExpected, NoCommonCapability, NoCommonSuite, PolicyDiffers, ends_start}
 use Rattle.spec_handshake.specs.Starts.{Start, Waiting, ForChoice, ForSelection, waits, without_first}
 use Rattle.spec_handshake.specs.Calls.{has_capability, has_suite, room_for_record, Finished, OpenedAs, after_choice, context_finishing, finishes_with}
 use Rattle.spec_handshake.proofs.StartLemmas.{found-in}
-use Rattle.n32c_handshake.specs.declared.fault.CheckFault.{CheckFault}
-use Rattle.n32c_handshake.specs.declared.fault.CheckFault.TheVariants as checking
-use Rattle.n32c_handshake.specs.Faults.{told}
+use Rattle.n32c_handshake.specs.declared.refusal.HandRefusal.{HandRefusal}
+use Rattle.n32c_handshake.specs.Faults.{refusal_view, told}
 use Rattle.n32c_handshake.specs.Outcome.{if_room}
 use Rattle.n32c_handshake.specs.Progress.{accepted, left}
 use Rattle.n32c_handshake.specs.Waiting.{IsFirst}
@@ -125,13 +126,6 @@ told_at records starts node plmn b s (Some why) is e = refused_at records starts
 gone : (p : Start → Bool) (starts : List Start) (s : Start) (b : Selection) (why : Refusal) → accepted s b ≡ Err why → left p starts (Some why) ≡ without_first p starts
 gone p starts s b why e = rw (ends_by (has_suite s.offer.suites b.suite) (difference s.offer.policy b.policy) why e) refl
 
-pub left_told : (p : Start → Bool) (starts : List Start) (s : Start) (b : Selection) (fault : CheckFault) → (fault ≡ checking.NoMemory → ⊥) → Tells (told fault) (accepted s b) → left p starts (told fault) ≡ without_first p starts
-left_told p starts s b (checking.Form member) wanting e = gone p starts s b _ e
-left_told p starts s b checking.NoCommonCapability wanting e = gone p starts s b _ e
-left_told p starts s b checking.NoCommonSuite wanting e = gone p starts s b _ e
-left_told p starts s b (checking.MappingDiffers number own other) wanting e = gone p starts s b _ e
-left_told p starts s b checking.TypesDiffer wanting e = gone p starts s b _ e
-left_told p starts s b checking.ContextUsed wanting e = gone p starts s b _ e
-left_told p starts s b checking.NotExpected wanting e = gone p starts s b _ e
-left_told p starts s b checking.ContextNotFound wanting e = gone p starts s b _ e
-left_told p starts s b checking.NoMemory wanting e = absurd (wanting refl)
+pub left_told : (p : Start → Bool) (starts : List Start) (s : Start) (b : Selection) (fault : CheckFault HandRefusal) → (fault ≡ checking.NoMemory → ⊥) → Tells (told fault) (accepted s b) → left p starts (told fault) ≡ without_first p starts
+left_told p starts s b (checking.Refused e) wanting is = gone p starts s b (refusal_view e) is
+left_told p starts s b checking.NoMemory wanting is = absurd (wanting refl)

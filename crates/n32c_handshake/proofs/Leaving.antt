@@ -14,13 +14,16 @@ use Rattle.n32_outside.specs.Contents.{Stays}
 use Rattle.context_store.specs.Stores.{Stored, NamesBad}
 use Rattle.context_store.specs.declared.faults.OpenFault.{OpenFault}
 use Rattle.context_store.specs.declared.faults.OpenFault.TheVariants as opening
+use Rattle.context_store.specs.declared.call_faults.CheckFault.{CheckFault}
+use Rattle.context_store.specs.declared.call_faults.CheckFault.TheVariants as checking
+use Rattle.context_store.specs.declared.call_faults.CallFault.{CallFault}
+use Rattle.context_store.specs.declared.call_faults.CallFault.TheVariants as faults
+use Rattle.context_store.specs.CallFaults.{of_check, of_opening}
 use Rattle.context_store.specs.Changes.{ComesTo}
 use Rattle.n32c_handshake.specs.declared.finishing.Finished.{Finished}
-use Rattle.n32c_handshake.specs.declared.fault.CheckFault.{CheckFault}
-use Rattle.n32c_handshake.specs.declared.fault.CheckFault.TheVariants as checking
-use Rattle.n32c_handshake.specs.declared.fault.HandFault.{HandFault}
-use Rattle.n32c_handshake.specs.declared.fault.HandFault.TheVariants as faults
-use Rattle.n32c_handshake.specs.Faults.{told, of_check, of_opening}
+use Rattle.n32c_handshake.specs.declared.refusal.HandRefusal.{HandRefusal}
+use Rattle.n32c_handshake.specs.declared.refusal.HandRefusal.TheVariants as refusals
+use Rattle.n32c_handshake.specs.Faults.{refusal_view, told}
 use Rattle.n32c_handshake.specs.Outcome.{Answers, Keeps, if_room}
 use Rattle.n32c_handshake.specs.Progress.{IsFinished, FinishBy, Finishes, after_put_starts}
 use Rattle.n32c_handshake.specs.Progress as progress
@@ -59,7 +62,7 @@ unread held now old new starts node plmn t opening.NoMemory stays before after f
 
 -- ---- over the records that were read
 
-by_put : (held mid now : Option (List (List ℕ))) (old read new : Stored) (starts left : List Start) (node plmn : List ℕ) (t : Tree) (r : Result Finished HandFault) (p : Putting) (w : Result spec.Finished Refusal)
+by_put : (held mid now : Option (List (List ℕ))) (old read new : Stored) (starts left : List Start) (node plmn : List ℕ) (t : Tree) (r : Result Finished (CallFault HandRefusal)) (p : Putting) (w : Result spec.Finished Refusal)
     → IsRead held mid old read → spec.finishes read.records starts node plmn t ≡ w → ComesTo (Answers IsFinished r) held now read.records new (or_refusal w (spec.put_finished p))
     → left ≡ spec.starts_left (awaits node t) starts (or_refusal w (spec.put_finished p)).result → FinishBy held now old new starts left node plmn t r
 by_put held mid now old read new starts left node plmn t r p w is_read is comes waits = record {
@@ -74,24 +77,17 @@ by_put held mid now old read new starts left node plmn t r p w is_read is comes 
 }
 
 -- a check refuses
-by_refusal : (held now : Option (List (List ℕ))) (old new : Stored) (starts left : List Start) (node plmn : List ℕ) (t : Tree) (fault : HandFault) (e : Refusal)
+by_refusal : (held now : Option (List (List ℕ))) (old new : Stored) (starts left : List Start) (node plmn : List ℕ) (t : Tree) (fault : CallFault HandRefusal) (e : Refusal)
     → IsRead held now old new → spec.finishes new.records starts node plmn t ≡ Err e → Answers IsFinished (Err fault) (Err (Own e))
     → left ≡ progress.left (awaits node t) starts (Some e) → FinishBy held now old new starts left node plmn t (Err fault)
 by_refusal held now old new starts left node plmn t fault e is_read is answer waits =
     by_put held now now old new new starts left node plmn t (Err fault) Kept (Err e) is_read is
     (record { answer = answer; change = record { told = is_read.told; kept = λ f. refl }; still = λ z. is_read.fresh }) waits
 
-pub refused : (held now : Option (List (List ℕ))) (old new : Stored) (starts left : List Start) (node plmn : List ℕ) (t : Tree) (fault : CheckFault)
+pub refused : (held now : Option (List (List ℕ))) (old new : Stored) (starts left : List Start) (node plmn : List ℕ) (t : Tree) (fault : CheckFault HandRefusal)
     → IsRead held now old new → Tells (told fault) (spec.finishes new.records starts node plmn t) → left ≡ progress.left (awaits node t) starts (told fault) → Finishes held now old new starts left node plmn t (Err (of_check fault))
 refused held now old new starts left node plmn t checking.NoMemory is_read is waits = (record { told = is_read.told; kept = is_read.same }, waits)
-refused held now old new starts left node plmn t (checking.Form member) is_read is waits = by_refusal held now old new starts left node plmn t (of_check (checking.Form member)) _ is_read is refl waits
-refused held now old new starts left node plmn t checking.NoCommonCapability is_read is waits = by_refusal held now old new starts left node plmn t faults.NoCommonCapability _ is_read is refl waits
-refused held now old new starts left node plmn t checking.NoCommonSuite is_read is waits = by_refusal held now old new starts left node plmn t faults.NoCommonSuite _ is_read is refl waits
-refused held now old new starts left node plmn t (checking.MappingDiffers number own other) is_read is waits = by_refusal held now old new starts left node plmn t (of_check (checking.MappingDiffers number own other)) _ is_read is refl waits
-refused held now old new starts left node plmn t checking.TypesDiffer is_read is waits = by_refusal held now old new starts left node plmn t (of_check checking.TypesDiffer) _ is_read is refl waits
-refused held now old new starts left node plmn t checking.ContextUsed is_read is waits = by_refusal held now old new starts left node plmn t faults.ContextUsed _ is_read is refl waits
-refused held now old new starts left node plmn t checking.NotExpected is_read is waits = by_refusal held now old new starts left node plmn t faults.NotExpected _ is_read is refl waits
-refused held now old new starts left node plmn t checking.ContextNotFound is_read is waits = by_refusal held now old new starts left node plmn t faults.ContextNotFound _ is_read is refl waits
+refused held now old new starts left node plmn t (checking.Refused e) is_read is waits = by_refusal held now old new starts left node plmn t (faults.Refused e) (refusal_view e) is_read is refl waits
 
 -- a result without a record
 pub given : (held now : Option (List (List ℕ))) (old new : Stored) (starts left : List Start) (node plmn : List ℕ) (t : Tree) (v : Finished) (x : spec.Finished)
@@ -105,7 +101,7 @@ given held now old new starts left node plmn t v x is_read is gives seen waits =
 
 -- ---- the put
 
-pub put : (held mid now : Option (List (List ℕ))) (old read new : Stored) (starts left : List Start) (node plmn : List ℕ) (t : Tree) (v : Finished) (x : Context) (at : ℕ) (kept : Result (Unit {0}) HandFault)
+pub put : (held mid now : Option (List (List ℕ))) (old read new : Stored) (starts left : List Start) (node plmn : List ℕ) (t : Tree) (v : Finished) (x : Context) (at : ℕ) (kept : Result (Unit {0}) (CallFault HandRefusal))
     → IsRead held mid old read → spec.finishes read.records starts node plmn t ≡ if_room read.records (spec.OpenedAs x) → IsFinished v (spec.OpenedAs x) → Keeps mid now read new (Opened x) kept
     → remove starts at ≡ without_first (awaits node t) starts → left ≡ after_put_starts at starts kept → Finishes held now old new starts left node plmn t (after_put v kept)
 put held mid now old read new starts left node plmn t v x at (Ok u) is_read is seen k without waits =
@@ -113,8 +109,8 @@ put held mid now old read new starts left node plmn t v x at (Ok u) is_read is s
     (subst (λ z. ComesTo (Answers IsFinished (Ok v)) z now read.records new (puts Kept (Opened x) (spec.OpenedAs x))) is_read.told
     (record { answer = (spec.OpenedAs x, refl, seen); change = record { told = (k.gains, k.reads); kept = λ f. k.more }; still = λ z. k.fresh }))
     (waits ∙ without)
-put held mid now old read new starts left node plmn t v x at (Err faults.Limit) is_read is seen k without waits =
-    by_put held mid now old read new starts left node plmn t (Err faults.Limit) Kept (Err (Beyond many_records)) is_read (is ∙ full read.records (spec.OpenedAs x) k.0)
+put held mid now old read new starts left node plmn t v x at (Err (faults.Refused refusals.Limit)) is_read is seen k without waits =
+    by_put held mid now old read new starts left node plmn t (Err (faults.Refused refusals.Limit)) Kept (Err (Beyond many_records)) is_read (is ∙ full read.records (spec.OpenedAs x) k.0)
     (record { answer = refl; change = record { told = k.1.told ∙ is_read.told; kept = λ f. ap (λ z. z.records) k.1.same }; still = λ z. ap (λ y. y.fresh) k.1.same ∙ is_read.fresh })
     waits
 put held mid now old read new starts left node plmn t v x at (Err faults.Keeper) is_read is seen k without waits =

@@ -1,5 +1,6 @@
 pub mod Told
 pub mod Words
+pub mod Texts
 pub mod Calls
 pub mod Waiting
 pub mod Checks

@@ -13,22 +13,24 @@ use Rattle.n32_outside.specs.Contents.{Stays, Gains}
 use Rattle.context_records.specs.Reading.{ReadsRecord, written}
 use Rattle.context_records.specs.View.{record_view}
 use Rattle.context_store.specs.Stores.{Stored}
+use Rattle.context_store.specs.declared.call_faults.CheckFault.{CheckFault}
+use Rattle.context_store.specs.declared.call_faults.CallFault.{CallFault}
+use Rattle.context_store.specs.declared.call_faults.CallFault.TheVariants as faults
 use Rattle.context_store.specs.Changes.{Nothing, CallBy}
-use Rattle.n32c_handshake.specs.declared.fault.HandFault.{HandFault}
-use Rattle.n32c_handshake.specs.declared.fault.HandFault.TheVariants as faults
-use Rattle.n32c_handshake.specs.declared.fault.CheckFault.{CheckFault}
+use Rattle.n32c_handshake.specs.declared.refusal.HandRefusal.{HandRefusal}
+use Rattle.n32c_handshake.specs.declared.refusal.HandRefusal.TheVariants as refusals
 use Rattle.n32c_handshake.specs.declared.starting.Prepared.{Prepared}
-use Rattle.n32c_handshake.specs.Faults.{told, Refuses}
+use Rattle.n32c_handshake.specs.Faults.{told, told_cause}
 
 -- ---- any call
 
 -- the result is what the definition gives, as far as a caller sees it, and a refusal the one that is wanted
-abbrev pub Answers : {X T : Type 0} → (X → T → Type 0) → Result X HandFault → Result T (Cause Refusal) → Type 0
+abbrev pub Answers : {X T : Type 0} → (X → T → Type 0) → Result X (CallFault HandRefusal) → Result T (Cause Refusal) → Type 0
 Answers {X} {T} Is (Ok x) wanted = (t : T) × (wanted ≡ Ok t) × Is x t
-Answers Is (Err e) wanted = Refuses e wanted
+Answers Is (Err e) wanted = Tells (told_cause e) wanted
 
 -- the call is made over the records of the store, once it is read, under some choice of the keeper. After want of memory nothing has changed
-abbrev pub Comes : {X T : Type 0} → (X → T → Type 0) → (Choice → List Record → Outcome Refusal T) → (held now : Option (List (List ℕ))) (old new : Stored) → Result X HandFault → Type 0
+abbrev pub Comes : {X T : Type 0} → (X → T → Type 0) → (Choice → List Record → Outcome Refusal T) → (held now : Option (List (List ℕ))) (old new : Stored) → Result X (CallFault HandRefusal) → Type 0
 Comes Is outcome held now old new (Err faults.NoMemory) = Nothing held now old new
 Comes Is outcome held now old new result = CallBy outcome (Answers Is result) held now old new
 
@@ -62,10 +64,10 @@ pub record IsUnput (held now : Option (List (List ℕ))) (old new : Stored) : Ty
   pub told : Stays held now
   pub same : new ≡ old
 
-abbrev pub Keeps : (held now : Option (List (List ℕ))) (old new : Stored) → Record → Result (Unit {0}) HandFault → Type 0
+abbrev pub Keeps : (held now : Option (List (List ℕ))) (old new : Stored) → Record → Result (Unit {0}) (CallFault HandRefusal) → Type 0
 Keeps held now old new r (Ok u) = IsKept held now old new r
 Keeps held now old new r (Err faults.Keeper) = IsUntold held now old new r
-Keeps held now old new r (Err faults.Limit) = (record_limit ≤ length old.records) × IsUnput held now old new
+Keeps held now old new r (Err (faults.Refused refusals.Limit)) = (record_limit ≤ length old.records) × IsUnput held now old new
 Keeps held now old new r (Err faults.NoMemory) = IsUnput held now old new
 Keeps held now old new r (Err _) = ⊥
 
@@ -76,7 +78,7 @@ abbrev pub if_room : {T : Type 0} → List Record → T → Result T Refusal
 if_room records x = room_for_record records >>= λ u. Ok x
 
 -- what passes the checks but for the limit on records, or the first that refuses
-abbrev pub ChecksOut : {X T : Type 0} → (X → T → Type 0) → List Record → Result T Refusal → Result X CheckFault → Type 0
+abbrev pub ChecksOut : {X T : Type 0} → (X → T → Type 0) → List Record → Result T Refusal → Result X (CheckFault HandRefusal) → Type 0
 ChecksOut {X} {T} Is records checks (Ok x) = (t : T) × (checks ≡ if_room records t) × Is x t
 ChecksOut Is records checks (Err e) = Tells (told e) checks
 

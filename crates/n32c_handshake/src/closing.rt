@@ -11,10 +11,11 @@ use crate::document::HandDocument;
 use crate::fault::{CheckFault, HandFault};
 use crate::keeping::keep;
 use crate::read::read_document;
+use crate::refusal::HandRefusal;
 use crate::starting::Prepared;
 use crate::write::{terminated_doc, terminates_doc};
 use context_records::Record;
-use context_store::Store;
+use context_store::{CallFault, Store};
 use n32_outside::Keeper;
 use n32_values::{Doc, Hex64, Node, Text};
 use std::alloc::Global;
@@ -25,7 +26,7 @@ fn closes(alloc: Global, store: &Store, node: &Text, id: Hex64) -> Result<Prepar
     ensures { ChecksOut (IsClosed node.now) store.now.records (spec.closes store.now.records node.now id.value documents.Terminates) result }
 {
     let Some(context) = store.context(node, id) else {
-        return Err(CheckFault::ContextNotFound);
+        return Err(CheckFault::Refused(HandRefusal::ContextNotFound));
     };
     let document = terminates_doc(alloc, context.peer)?;
     let item = Record::Closed {
@@ -46,7 +47,7 @@ fn closes_after(
     ensures { ChecksOut (IsClosed node.now) store.now.records (spec.closes store.now.records node.now id.value documents.Terminated) result }
 {
     let Some(context) = store.context(node, id) else {
-        return Err(CheckFault::ContextNotFound);
+        return Err(CheckFault::Refused(HandRefusal::ContextNotFound));
     };
     let document = terminated_doc(alloc, context.peer)?;
     let item = Record::Closed {
@@ -67,7 +68,7 @@ fn closes_by(
 {
     match read_document(alloc, document)? {
         HandDocument::Terminates(id) => closes_after(alloc, store, node, id),
-        _ => Err(CheckFault::NotExpected),
+        _ => Err(CheckFault::Refused(HandRefusal::NotExpected)),
     }
 }
 
@@ -87,8 +88,8 @@ pub fn terminate<K: Keeper>(
     ensures terminates { Comes IsClosing (λ f records. spec.terminate f records node.now id.value) (K.held keeper.old) (K.held keeper.new) store.old store.new result }
     ensures consistent { IsConsistent (K.held keeper.new) store.new }
     ensures later { K.faults keeper.old ≤ K.faults keeper.new }
-    ensures failed { IsErrOf result HandFault.Keeper → Rose (K.faults keeper.old) (K.faults keeper.new) }
-    ensures last { IsErrOf result HandFault.Keeper → store.old.fresh ≡ true → IsOk (spec.closes store.old.records node.now id.value documents.Terminates) }
+    ensures failed { IsErrOf result CallFault.Keeper → Rose (K.faults keeper.old) (K.faults keeper.new) }
+    ensures last { IsErrOf result CallFault.Keeper → store.old.fresh ≡ true → IsOk (spec.closes store.old.records node.now id.value documents.Terminates) }
 {
     store.refresh(alloc, keeper)?;
     let Prepared { document, item } = closes(alloc, store, node, id)?;
@@ -111,8 +112,8 @@ pub fn ended<K: Keeper>(
     ensures ends { Comes IsClosing (λ f records. spec.ended f records node.now document.now) (K.held keeper.old) (K.held keeper.new) store.old store.new result }
     ensures consistent { IsConsistent (K.held keeper.new) store.new }
     ensures later { K.faults keeper.old ≤ K.faults keeper.new }
-    ensures failed { IsErrOf result HandFault.Keeper → Rose (K.faults keeper.old) (K.faults keeper.new) }
-    ensures last { IsErrOf result HandFault.Keeper → store.old.fresh ≡ true → IsOk (spec.closes_by store.old.records node.now document.now) }
+    ensures failed { IsErrOf result CallFault.Keeper → Rose (K.faults keeper.old) (K.faults keeper.new) }
+    ensures last { IsErrOf result CallFault.Keeper → store.old.fresh ≡ true → IsOk (spec.closes_by store.old.records node.now document.now) }
 {
     store.refresh(alloc, keeper)?;
     let Prepared {

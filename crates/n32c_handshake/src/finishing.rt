@@ -22,11 +22,12 @@ use crate::hands::Hands;
 use crate::keeping::keep_opened;
 use crate::policies::agree;
 use crate::read::read_document;
+use crate::refusal::HandRefusal;
 use crate::starts::{Start, Waiting};
 use crate::suites::has_suite;
 use crate::write::asks_doc;
 use context_records::Context;
-use context_store::Store;
+use context_store::{CallFault, Store};
 use n32_outside::Keeper;
 use n32_values::{Doc, Hex64, NoMemory, Node, PlmnId, Text};
 use std::alloc::Global;
@@ -68,11 +69,11 @@ fn take_choice(
     ensures named { IfOk result HasNames }
 {
     let Some(at) = hands.first(node, call, sender, Waiting::ForChoice) else {
-        return Err(CheckFault::NotExpected);
+        return Err(CheckFault::Refused(HandRefusal::NotExpected));
     };
     if !has_capability(&hands.start(at).offer.capabilities, capability) {
         hands.remove(at);
-        return Err(CheckFault::NoCommonCapability);
+        return Err(CheckFault::Refused(HandRefusal::NoCommonCapability));
     }
     match capability {
         Capability::Prins => {
@@ -93,7 +94,7 @@ fn accepts(alloc: Global, start: &Start, selection: &Selection) -> Result<(), Ch
     ensures same { OnOk result (start.now.offer.policy ≡ selection.now.policy) }
 {
     if !has_suite(&start.offer.suites, selection.suite) {
-        return Err(CheckFault::NoCommonSuite);
+        return Err(CheckFault::Refused(HandRefusal::NoCommonSuite));
     }
     agree(alloc, &start.offer.policy, &selection.policy)
 }
@@ -137,7 +138,7 @@ fn take_selection(
         &selection.sender,
         Waiting::ForSelection,
     ) else {
-        return Err(CheckFault::NotExpected);
+        return Err(CheckFault::Refused(HandRefusal::NotExpected));
     };
     match accepts(alloc, hands.start(at), &selection) {
         Ok(()) => {
@@ -177,7 +178,7 @@ fn take_reply(
         HandDocument::Selects(selection) => {
             take_selection(alloc, hands, store, node, plmn, selection)
         }
-        _ => Err(CheckFault::NotExpected),
+        _ => Err(CheckFault::Refused(HandRefusal::NotExpected)),
     }
 }
 
@@ -202,8 +203,8 @@ pub fn finish<K: Keeper>(
     ensures finishes { Finishes (K.held keeper.old) (K.held keeper.new) store.old store.new hands.old hands.new node.now plmn.now document.now result }
     ensures consistent { IsConsistent (K.held keeper.new) store.new }
     ensures later { K.faults keeper.old ≤ K.faults keeper.new }
-    ensures failed { IsErrOf result HandFault.Keeper → Rose (K.faults keeper.old) (K.faults keeper.new) }
-    ensures last { IsErrOf result HandFault.Keeper → store.old.fresh ≡ true → IsOk (spec.finishes store.old.records hands.old node.now plmn.now document.now) }
+    ensures failed { IsErrOf result CallFault.Keeper → Rose (K.faults keeper.old) (K.faults keeper.new) }
+    ensures last { IsErrOf result CallFault.Keeper → store.old.fresh ≡ true → IsOk (spec.finishes store.old.records hands.old node.now plmn.now document.now) }
 {
     store.refresh(alloc, keeper)?;
     match take_reply(alloc, hands, store, node, plmn, document.node())? {
@@ -234,7 +235,7 @@ fn open<K: Keeper>(
     ensures waits { hands.new ≡ after_put_starts at hands.old result }
     ensures consistent { IsConsistent (K.held keeper.new) store.new }
     ensures later { K.faults keeper.old ≤ K.faults keeper.new }
-    ensures failed { IsErrOf result HandFault.Keeper → Rose (K.faults keeper.old) (K.faults keeper.new) }
+    ensures failed { IsErrOf result CallFault.Keeper → Rose (K.faults keeper.old) (K.faults keeper.new) }
 {
     let kept = keep_opened(alloc, store, keeper, context);
     match kept {

@@ -8,8 +8,9 @@ ghost use Rattle.context_store.specs.Stores.{IsConsistent};
 ghost use Rattle.n32c_handshake.specs.Outcome.{Keeps};
 
 use crate::fault::HandFault;
+use crate::refusal::HandRefusal;
 use context_records::{Context, Record};
-use context_store::{AddFault, Store};
+use context_store::{AddFault, CallFault, Store};
 use n32_outside::Keeper;
 use std::alloc::Global;
 
@@ -26,11 +27,11 @@ pub(crate) fn keep<K: Keeper>(
     ensures keeps { Keeps (K.held keeper.old) (K.held keeper.new) store.old store.new (record_view item) result }
     ensures consistent { IsConsistent (K.held keeper.new) store.new }
     ensures later { K.faults keeper.old ≤ K.faults keeper.new }
-    ensures failed { IsErrOf result HandFault.Keeper → Rose (K.faults keeper.old) (K.faults keeper.new) }
+    ensures failed { IsErrOf result CallFault.Keeper → Rose (K.faults keeper.old) (K.faults keeper.new) }
 {
     match store.add(alloc, keeper, item) {
         Ok(_) => Ok(()),
-        Err(AddFault::Limit) => Err(HandFault::Limit),
+        Err(AddFault::Limit) => Err(HandFault::Refused(HandRefusal::Limit)),
         Err(AddFault::Keeper) => Err(HandFault::Keeper),
         Err(AddFault::NoMemory) => Err(HandFault::NoMemory),
     }
@@ -49,7 +50,7 @@ pub(crate) fn keep_opened<K: Keeper>(
     ensures keeps { Keeps (K.held keeper.old) (K.held keeper.new) store.old store.new (Opened (context_view context)) result }
     ensures consistent { IsConsistent (K.held keeper.new) store.new }
     ensures later { K.faults keeper.old ≤ K.faults keeper.new }
-    ensures failed { IsErrOf result HandFault.Keeper → Rose (K.faults keeper.old) (K.faults keeper.new) }
+    ensures failed { IsErrOf result CallFault.Keeper → Rose (K.faults keeper.old) (K.faults keeper.new) }
 {
     match Record::of_context(alloc, context) {
         Ok(item) => keep(alloc, store, keeper, item),

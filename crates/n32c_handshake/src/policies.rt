@@ -9,6 +9,7 @@ ghost use Rattle.policy_documents.specs.View.{mapping_view};
 ghost use Rattle.n32c_handshake.specs.Faults.{told};
 
 use crate::fault::CheckFault;
+use crate::refusal::HandRefusal;
 use n32_values::{Doc, NoMemory};
 use policy_documents::{Mapping, Policy, PolicyMatch, mapping_doc, same_policy};
 use spec_handshake::documents::{first_difference_is_told, written_document_is_read};
@@ -42,11 +43,11 @@ fn mapping_differs(alloc: Global, own: &Policy, other: &Policy, k: u32) -> Check
     let Ok(theirs) = printed_at(alloc, other, k) else {
         return CheckFault::NoMemory;
     };
-    CheckFault::MappingDiffers {
+    CheckFault::Refused(HandRefusal::MappingDiffers {
         number: k,
         own: mine,
         other: theirs,
-    }
+    })
 }
 
 // That a policy is what its own document is read to.
@@ -67,6 +68,6 @@ pub(crate) fn agree(alloc: Global, own: &Policy, other: &Policy) -> Result<(), C
     match same_policy(own, other) {
         PolicyMatch::Same => Ok(()),
         PolicyMatch::Mapping(k) => Err(mapping_differs(alloc, own, other, k)),
-        PolicyMatch::Types => Err(CheckFault::TypesDiffer),
+        PolicyMatch::Types => Err(CheckFault::Refused(HandRefusal::TypesDiffer)),
     }
 }

@@ -19,10 +19,12 @@ use crate::keeping::keep_opened;
 use crate::offer::Offer;
 use crate::policies::agree;
 use crate::read::read_document;
+use crate::refusal::HandRefusal;
 use crate::suites::common_suite;
 use crate::write::{chooses_doc, selects_doc};
+use crate::refusal::HandRefusal;
 use context_records::Context;
-use context_store::Store;
+use context_store::{CallFault, Store};
 use n32_outside::Keeper;
 use n32_values::{Doc, Hex64, Node, PlmnId, Text};
 use std::alloc::Global;
@@ -57,7 +59,7 @@ fn reply_to_capabilities(
     ensures named { IfOk result HasNames }
 {
     let Some(capability) = chosen(capabilities, &offer.capabilities) else {
-        return Err(CheckFault::NoCommonCapability);
+        return Err(CheckFault::Refused(HandRefusal::NoCommonCapability));
     };
     Ok(Reply::Chose(chooses_doc(alloc, call, node, capability)?))
 }
@@ -78,11 +80,11 @@ fn reply_to_ask(
     ensures named { IfOk result HasNames }
 {
     let Some(suite) = common_suite(&ask.suites, &offer.suites) else {
-        return Err(CheckFault::NoCommonSuite);
+        return Err(CheckFault::Refused(HandRefusal::NoCommonSuite));
     };
     agree(alloc, &offer.policy, &ask.policy)?;
     if store.used(node, offer.id) {
-        return Err(CheckFault::ContextUsed);
+        return Err(CheckFault::Refused(HandRefusal::ContextUsed));
     }
     let document = selects_doc(alloc, node, plmn, &offer, ask.call, suite)?;
     let context = Context {
@@ -121,7 +123,7 @@ fn reply_to(
             ..
         } => reply_to_capabilities(alloc, store, node, plmn, &offer, call, &capabilities),
         HandDocument::Asks(ask) => reply_to_ask(alloc, store, node, plmn, offer, ask),
-        _ => Err(CheckFault::NotExpected),
+        _ => Err(CheckFault::Refused(HandRefusal::NotExpected)),
     }
 }
 
@@ -148,8 +150,8 @@ pub fn answer<K: Keeper>(
     ensures replies { Comes IsReplied (λ f records. spec.answer f records node.now plmn.now (offer_view offer) document.now) (K.held keeper.old) (K.held keeper.new) store.old store.new result }
     ensures consistent { IsConsistent (K.held keeper.new) store.new }
     ensures later { K.faults keeper.old ≤ K.faults keeper.new }
-    ensures failed { IsErrOf result HandFault.Keeper → Rose (K.faults keeper.old) (K.faults keeper.new) }
-    ensures last { IsErrOf result HandFault.Keeper → store.old.fresh ≡ true → IsOk (spec.replies store.old.records node.now plmn.now (offer_view offer) document.now) }
+    ensures failed { IsErrOf result CallFault.Keeper → Rose (K.faults keeper.old) (K.faults keeper.new) }
+    ensures last { IsErrOf result CallFault.Keeper → store.old.fresh ≡ true → IsOk (spec.replies store.old.records node.now plmn.now (offer_view offer) document.now) }
 {
     store.refresh(alloc, keeper)?;
     match reply_to(alloc, store, node, plmn, offer, document.node())? {

@@ -14,10 +14,11 @@ use crate::fault::{CheckFault, HandFault};
 use crate::hands::Hands;
 use crate::keeping::keep;
 use crate::offer::Offer;
+use crate::refusal::HandRefusal;
 use crate::starts::{Start, Waiting};
 use crate::write::supports_doc;
 use context_records::Record;
-use context_store::Store;
+use context_store::{CallFault, Store};
 use n32_outside::Keeper;
 use n32_values::{Doc, PlmnId, Text};
 use std::alloc::Global;
@@ -46,7 +47,7 @@ fn begin(
     ensures as_before { OnErr result (hands.new ≡ hands.old) }
 {
     if store.used(node, offer.id) {
-        return Err(CheckFault::ContextUsed);
+        return Err(CheckFault::Refused(HandRefusal::ContextUsed));
     }
     let document = supports_doc(alloc, offer.id, node, &offer.capabilities)?;
     let item = Record::Offered {
@@ -90,8 +91,8 @@ pub fn start<K: Keeper>(
     ensures as_before { OnErr result (hands.new ≡ hands.old) }
     ensures consistent { IsConsistent (K.held keeper.new) store.new }
     ensures later { K.faults keeper.old ≤ K.faults keeper.new }
-    ensures failed { IsErrOf result HandFault.Keeper → Rose (K.faults keeper.old) (K.faults keeper.new) }
-    ensures last { IsErrOf result HandFault.Keeper → store.old.fresh ≡ true → IsOk (spec.begins store.old.records node.now (offer_view offer)) }
+    ensures failed { IsErrOf result CallFault.Keeper → Rose (K.faults keeper.old) (K.faults keeper.new) }
+    ensures last { IsErrOf result CallFault.Keeper → store.old.fresh ≡ true → IsOk (spec.begins store.old.records node.now (offer_view offer)) }
 {
     store.refresh(alloc, keeper)?;
     let count = hands.len();

@@ -1,14 +1,14 @@
 -- A call of the handshake puts a record only where there is room for it.
-use Rattle.std.proofs.Common.{◌≡◌, ℕ, ◌<◌, Bool, true, false, List, length, Option, Some, None, Result, Ok, Err, refl}
+use Rattle.std.proofs.Common.{◌≡◌, ℕ, ◌<◌, Bool, true, false, List, length, Some, None, Result, Ok, Err, refl}
 use Rattle.std.proofs.lemmas.Bool.{leb-false}
 use Rattle.spec_documents.specs.Tree.{Tree}
 use Rattle.spec_documents.specs.Chain.{◌>>=◌, unless}
-use Rattle.spec_records.specs.Records.{Record, record_limit, Offered, Closed}
+use Rattle.spec_records.specs.Records.{Record, record_limit, Offered}
 use Rattle.spec_exchange.specs.Outside.{Choice, Reading, Read, ReadFails, BadRecord, Putting, Outcome, puts, behind_reading, or_refusal}
 use Rattle.spec_handshake.specs.Documents.{Document, Supports, Chooses, Asks, Selects, Terminates, Terminated, Capability, Prins, Tls}
 use Rattle.spec_handshake.specs.Refusals.{Refusal}
 use Rattle.spec_handshake.specs.Starts.{Offer, Start}
-use Rattle.spec_handshake.specs.Calls.{room_for_record, begins, start, Replied, Chose, replies_to, replies, put_reply, answer, Finished, Next, EndedTls, after_choice, finishes_with, finishes, put_finished, finish, Closing, closes, put_closing, terminate, closes_by, ended}
+use Rattle.spec_handshake.specs.Calls.{room_for_record, begins, start, replies_to, replies, put_reply, answer, after_choice, finishes_with, finishes, put_finished, finish, Closing, closes, put_closing, terminate, closes_by, ended}
 
 -- what passes and is put has room
 record HasRoom {X T : Type 0} (records : List Record) (c : X → Outcome Refusal T) (r : Result X Refusal) : Type 0 where

@@ -4,15 +4,16 @@ use Rattle.std.specs.Prelude.{option_map, IsErrOf}
 use Rattle.n32_outside.specs.Causes.{Rose}
 use Rattle.spec_documents.specs.Tree.{Tree}
 use Rattle.spec_records.specs.Records.{Record}
-use Rattle.spec_exchange.specs.Outside.{Choice, Cause, Outside, Journal, Keeper, Outcome}
+use Rattle.spec_exchange.specs.Outside.{Choice, Cause, Own, Outside, Journal, Keeper, Outcome}
 use Rattle.context_store.specs.Stores.{Stored, IsConsistent}
 use Rattle.context_store.specs.Changes.{Nothing, Change, CallBy}
 use Rattle.spec_handshake.specs.Documents.{Document, document_tree}
 use Rattle.spec_handshake.specs.Refusals as handshake
 use Rattle.spec_handshake.specs.Starts.{Start}
-use Rattle.policy_documents.specs.declared.same.PolicyMatch.TheVariants as found
-use Rattle.n32c_handshake.specs.declared.fault.HandFault.{HandFault}
-use Rattle.n32c_handshake.specs.declared.fault.HandFault.TheVariants as faults
+use Rattle.context_store.specs.declared.call_faults.CallFault.{CallFault}
+use Rattle.context_store.specs.declared.call_faults.CallFault.TheVariants as faults
+use Rattle.n32c_handshake.specs.declared.refusal.HandRefusal.{HandRefusal}
+use Rattle.n32c_handshake.specs.Faults.{refusal_view as hand_view}
 use Rattle.n32c_handshake.specs.Outcome as hands
 use Rattle.n32c_handshake.specs.Progress as progress
 use Rattle.n32c_handshake.specs.declared.finishing.Finished.{Finished}
@@ -23,13 +24,13 @@ use Rattle.spec_script.specs.Steps.{State, Answer, Step, Refuses, call_answer, c
 use Rattle.script_lines.specs.View.{refusal_view}
 use Rattle.script_lines.specs.declared.refusal.Refusal.{Refusal}
 use Rattle.script_lines.specs.declared.refusal.Refusal.TheVariants as refusals
-use Rattle.script_lines.specs.declared.hand_refusal.HandRefusal.TheVariants as hand
 use Rattle.script_lines.specs.declared.unanswered.Unanswered.{Unanswered}
 use Rattle.script_lines.specs.declared.unanswered.Unanswered.TheVariants as unanswered
 use Rattle.replay_world.specs.Worlds.{IsShallow, IsSound, sites_view, state_of}
 use Rattle.replay_world.specs.Stepping.{StepBy, Makes, HasPut, GivesUp, Tells, Comes, is_refusal}
 use Rattle.replay_world.specs.Handling.{Handles}
-use Rattle.replay_world.specs.Shaking.{Concludes, HasSent, of_hand}
+use Rattle.replay_world.specs.Refusing.{of_hand}
+use Rattle.replay_world.specs.Shaking.{Concludes, HasSent}
 use Rattle.replay_world.specs.declared.world.World.{World}
 use Rattle.replay_world.proofs.Parts.{gives_up_idly}
 use Rattle.replay_world.proofs.Wires.{sound_more}
@@ -41,27 +42,20 @@ abbrev pub called : World → Stored → List Start → World
 called w s waiting = record { sites = w.sites; wire = w.wire; wire_bytes = w.wire_bytes; store = s; hands = waiting }
 
 -- a call over the records of the store, and the starts that wait then, under one choice of the keeper
-pub record CallAt {X T : Type 0} (Is : X → T → Type 0) (outcome : Choice → List Record → Outcome handshake.Refusal T) (starts : Choice → List Record → List Start) (held now : Option (List (List ℕ))) (old new : Stored) (left : List Start) (call : Result X HandFault) : Type 0 where
+pub record CallAt {X T : Type 0} (Is : X → T → Type 0) (outcome : Choice → List Record → Outcome handshake.Refusal T) (starts : Choice → List Record → List Start) (held now : Option (List (List ℕ))) (old new : Stored) (left : List Start) (call : Result X (CallFault HandRefusal)) : Type 0 where
   pub by : CallBy outcome (hands.Answers Is call) held now old new
   pub waits : left ≡ starts by.choice by.records
 
-abbrev pub Called : {X T : Type 0} → (X → T → Type 0) → (Choice → List Record → Outcome handshake.Refusal T) → (Choice → List Record → List Start) → (held now : Option (List (List ℕ))) → (old new : Stored) → List Start → Result X HandFault → Type 0
+abbrev pub Called : {X T : Type 0} → (X → T → Type 0) → (Choice → List Record → Outcome handshake.Refusal T) → (Choice → List Record → List Start) → (held now : Option (List (List ℕ))) → (old new : Stored) → List Start → Result X (CallFault HandRefusal) → Type 0
 Called Is outcome starts held now old new left (Err faults.NoMemory) = Nothing held now old new
 Called Is outcome starts held now old new left call = CallAt Is outcome starts held now old new left call
 
 -- what the starts are follows from what is answered
-pub called_by : {X T : Type 0} (Is : X → T → Type 0) (outcome : Choice → List Record → Outcome handshake.Refusal T) (starts : Choice → List Record → List Start) (held now : Option (List (List ℕ))) (old new : Stored) (left : List Start) (call : Result X HandFault)
+pub called_by : {X T : Type 0} (Is : X → T → Type 0) (outcome : Choice → List Record → Outcome handshake.Refusal T) (starts : Choice → List Record → List Start) (held now : Option (List (List ℕ))) (old new : Stored) (left : List Start) (call : Result X (CallFault HandRefusal))
     → hands.Comes Is outcome held now old new call → ((call ≡ Err faults.NoMemory → ⊥) → (f : Choice) (records : List Record) → hands.Answers Is call (outcome f records).result → left ≡ starts f records) → Called Is outcome starts held now old new left call
 called_by Is outcome starts held now old new left (Ok x) h w = record { by = h; waits = w (λ e. cc) h.choice h.records h.comes.answer }
 called_by Is outcome starts held now old new left (Err (faults.Journal k)) h w = record { by = h; waits = w (λ e. cc) h.choice h.records h.comes.answer }
-called_by Is outcome starts held now old new left (Err (faults.Form member)) h w = record { by = h; waits = w (λ e. cc) h.choice h.records h.comes.answer }
-called_by Is outcome starts held now old new left (Err faults.NoCommonCapability) h w = record { by = h; waits = w (λ e. cc) h.choice h.records h.comes.answer }
-called_by Is outcome starts held now old new left (Err faults.NoCommonSuite) h w = record { by = h; waits = w (λ e. cc) h.choice h.records h.comes.answer }
-called_by Is outcome starts held now old new left (Err (faults.PolicyDiffers at own other)) h w = record { by = h; waits = w (λ e. cc) h.choice h.records h.comes.answer }
-called_by Is outcome starts held now old new left (Err faults.ContextUsed) h w = record { by = h; waits = w (λ e. cc) h.choice h.records h.comes.answer }
-called_by Is outcome starts held now old new left (Err faults.NotExpected) h w = record { by = h; waits = w (λ e. cc) h.choice h.records h.comes.answer }
-called_by Is outcome starts held now old new left (Err faults.ContextNotFound) h w = record { by = h; waits = w (λ e. cc) h.choice h.records h.comes.answer }
-called_by Is outcome starts held now old new left (Err faults.Limit) h w = record { by = h; waits = w (λ e. cc) h.choice h.records h.comes.answer }
+called_by Is outcome starts held now old new left (Err (faults.Refused e)) h w = record { by = h; waits = w (λ e. cc) h.choice h.records h.comes.answer }
 called_by Is outcome starts held now old new left (Err faults.Keeper) h w = record { by = h; waits = w (λ e. cc) h.choice h.records h.comes.answer }
 called_by Is outcome starts held now old new left (Err faults.NoMemory) h w = h
 
@@ -69,25 +63,18 @@ called_by Is outcome starts held now old new left (Err faults.NoMemory) h w = h
 abbrev pub finish_starts : List Start → (node plmn : List ℕ) → Tree → Choice → List Record → List Start
 finish_starts starts node plmn t f records = calls.after_finish f.reading starts node t (calls.finish f records starts node plmn t).result
 
-pub finish_called : (held now : Option (List (List ℕ))) (old new : Stored) (starts left : List Start) (node plmn : List ℕ) (t : Tree) (call : Result Finished HandFault) → progress.Finishes held now old new starts left node plmn t call
+pub finish_called : (held now : Option (List (List ℕ))) (old new : Stored) (starts left : List Start) (node plmn : List ℕ) (t : Tree) (call : Result Finished (CallFault HandRefusal)) → progress.Finishes held now old new starts left node plmn t call
     → Called progress.IsFinished (λ f records. calls.finish f records starts node plmn t) (finish_starts starts node plmn t) held now old new left call
 finish_called held now old new starts left node plmn t (Ok x) h = record { by = h.call; waits = h.waits }
 finish_called held now old new starts left node plmn t (Err (faults.Journal k)) h = record { by = h.call; waits = h.waits }
-finish_called held now old new starts left node plmn t (Err (faults.Form member)) h = record { by = h.call; waits = h.waits }
-finish_called held now old new starts left node plmn t (Err faults.NoCommonCapability) h = record { by = h.call; waits = h.waits }
-finish_called held now old new starts left node plmn t (Err faults.NoCommonSuite) h = record { by = h.call; waits = h.waits }
-finish_called held now old new starts left node plmn t (Err (faults.PolicyDiffers at own other)) h = record { by = h.call; waits = h.waits }
-finish_called held now old new starts left node plmn t (Err faults.ContextUsed) h = record { by = h.call; waits = h.waits }
-finish_called held now old new starts left node plmn t (Err faults.NotExpected) h = record { by = h.call; waits = h.waits }
-finish_called held now old new starts left node plmn t (Err faults.ContextNotFound) h = record { by = h.call; waits = h.waits }
-finish_called held now old new starts left node plmn t (Err faults.Limit) h = record { by = h.call; waits = h.waits }
+finish_called held now old new starts left node plmn t (Err (faults.Refused e)) h = record { by = h.call; waits = h.waits }
 finish_called held now old new starts left node plmn t (Err faults.Keeper) h = record { by = h.call; waits = h.waits }
 finish_called held now old new starts left node plmn t (Err faults.NoMemory) h = h.0
 
 -- ---- the step that a call makes
 
 by_called : {X T : Type 0} (Is : X → T → Type 0) (tell : T → Answer) (made : T → Option Document) (outcome : Choice → List Record → Outcome handshake.Refusal T) (starts : Choice → List Record → List Start) (steps : State → Choice → Step)
-    (held now : Option (List (List ℕ))) (old : World) (store : Stored) (left : List Start) (call : Result X HandFault) (P : List Record → Step → Type 0)
+    (held now : Option (List (List ℕ))) (old : World) (store : Stored) (left : List Start) (call : Result X (CallFault HandRefusal)) (P : List Record → Step → Type 0)
     → CallAt Is outcome starts held now old.store store left call → ((records : List Record) (f : Choice) → steps (state_of old records) f ≡ shakes (state_of old records) tell made (starts f records) (outcome f records))
     → ((records : List Record) (o : Outcome handshake.Refusal T) → hands.Answers Is call o.result → Change held now records store o.put → P records (shakes (state_of old records) tell made left o)) → StepBy steps held old P
 by_called Is tell made outcome starts steps held now old store left call P h same leaves = record {
@@ -100,7 +87,7 @@ by_called Is tell made outcome starts steps held now old store left call P h sam
 }
 
 call_gives_up : {X T : Type 0} (Is : X → T → Type 0) (tell : T → Answer) (made : T → Option Document) (outcome : Choice → List Record → Outcome handshake.Refusal T) (starts : Choice → List Record → List Start) (steps : State → Choice → Step)
-    (held now : Option (List (List ℕ))) (old : World) (store : Stored) (left : List Start) (call : Result X HandFault)
+    (held now : Option (List (List ℕ))) (old : World) (store : Stored) (left : List Start) (call : Result X (CallFault HandRefusal))
     → CallAt Is outcome starts held now old.store store left call → ((records : List Record) (f : Choice) → steps (state_of old records) f ≡ shakes (state_of old records) tell made (starts f records) (outcome f records))
     → GivesUp steps held now old (called old store left)
 call_gives_up Is tell made outcome starts steps held now old store left call h same = record {
@@ -154,7 +141,7 @@ made_by Is tell made told sent held now old store left new number text x sees is
 -- ---- a call that is refused
 
 refused_by : {X T : Type 0} (Is : X → T → Type 0) (tell : T → Answer) (made : T → Option Document) (outcome : Choice → List Record → Outcome handshake.Refusal T) (starts : Choice → List Record → List Start) (steps : State → Choice → Step)
-    (held now : Option (List (List ℕ))) (old : World) (store : Stored) (left : List Start) (number : ℕ) (e : HandFault) (c : Cause handshake.Refusal) (refusal : Refusal)
+    (held now : Option (List (List ℕ))) (old : World) (store : Stored) (left : List Start) (number : ℕ) (e : CallFault HandRefusal) (c : Cause handshake.Refusal) (refusal : Refusal)
     → ((r : Result T (Cause handshake.Refusal)) → hands.Answers Is (Err e) r → r ≡ Err c) → of_cause OfHandshake c ≡ refusal_view refusal
     → CallAt Is outcome starts held now old.store store left (Err e) → ((records : List Record) (f : Choice) → steps (state_of old records) f ≡ shakes (state_of old records) tell made (starts f records) (outcome f records))
     → Comes steps held now old (called old store left) number (Err (unanswered.Refused refusal))
@@ -163,49 +150,31 @@ refused_by Is tell made outcome starts steps held now old store left number e c 
     (λ records o a change. record { told = ap (call_answer tell) (is o.result a) ∙ ap Refuses view; sites = refl; sent = ap (λ z. with_sent old.wire (call_sent made z)) (sym (is o.result a)); starts = refl; change = change })
 
 comes_refused : {X T : Type 0} (Is : X → T → Type 0) (tell : T → Answer) (made : T → Option Document) (outcome : Choice → List Record → Outcome handshake.Refusal T) (starts : Choice → List Record → List Start) (steps : State → Choice → Step)
-    (held now : Option (List (List ℕ))) (old : World) (store : Stored) (left : List Start) (number : ℕ) (e : HandFault)
+    (held now : Option (List (List ℕ))) (old : World) (store : Stored) (left : List Start) (number : ℕ) (e : CallFault HandRefusal)
     → Called Is outcome starts held now old.store store left (Err e) → ((records : List Record) (f : Choice) → steps (state_of old records) f ≡ shakes (state_of old records) tell made (starts f records) (outcome f records))
     → Comes steps held now old (called old store left) number (Err (of_hand e))
 comes_refused Is tell made outcome starts steps held now old store left number (faults.Journal k) h same = refused_by Is tell made outcome starts steps held now old store left number (faults.Journal k) (Outside (Journal k)) (refusals.Journal k) (λ r a. a) refl h same
-comes_refused Is tell made outcome starts steps held now old store left number (faults.Form member) h same = refused_by Is tell made outcome starts steps held now old store left number (faults.Form member) _ (refusals.Handshake (hand.Form member)) (λ r a. a) refl h same
-comes_refused Is tell made outcome starts steps held now old store left number faults.NoCommonCapability h same = refused_by Is tell made outcome starts steps held now old store left number faults.NoCommonCapability _ (refusals.Handshake hand.NoCommonCapability) (λ r a. a) refl h same
-comes_refused Is tell made outcome starts steps held now old store left number faults.NoCommonSuite h same = refused_by Is tell made outcome starts steps held now old store left number faults.NoCommonSuite _ (refusals.Handshake hand.NoCommonSuite) (λ r a. a) refl h same
-comes_refused Is tell made outcome starts steps held now old store left number (faults.PolicyDiffers found.Same own other) h same = absurd h.by.comes.answer
-comes_refused Is tell made outcome starts steps held now old store left number (faults.PolicyDiffers (found.Mapping k) own other) h same = refused_by Is tell made outcome starts steps held now old store left number (faults.PolicyDiffers (found.Mapping k) own other) _ (refusals.Handshake (hand.MappingDiffers k own other)) (λ r a. a) refl h same
-comes_refused Is tell made outcome starts steps held now old store left number (faults.PolicyDiffers found.Types own other) h same = refused_by Is tell made outcome starts steps held now old store left number (faults.PolicyDiffers found.Types own other) _ (refusals.Handshake hand.TypesDiffer) (λ r a. a) refl h same
-comes_refused Is tell made outcome starts steps held now old store left number faults.ContextUsed h same = refused_by Is tell made outcome starts steps held now old store left number faults.ContextUsed _ (refusals.Handshake hand.ContextUsed) (λ r a. a) refl h same
-comes_refused Is tell made outcome starts steps held now old store left number faults.NotExpected h same = refused_by Is tell made outcome starts steps held now old store left number faults.NotExpected _ (refusals.Handshake hand.NotExpected) (λ r a. a) refl h same
-comes_refused Is tell made outcome starts steps held now old store left number faults.ContextNotFound h same = refused_by Is tell made outcome starts steps held now old store left number faults.ContextNotFound _ (refusals.Handshake hand.ContextNotFound) (λ r a. a) refl h same
-comes_refused Is tell made outcome starts steps held now old store left number faults.Limit h same = refused_by Is tell made outcome starts steps held now old store left number faults.Limit _ (refusals.Handshake hand.Limit) (λ r a. a) refl h same
+comes_refused Is tell made outcome starts steps held now old store left number (faults.Refused e) h same = refused_by Is tell made outcome starts steps held now old store left number (faults.Refused e) (Own (hand_view e)) (refusals.Handshake e) (λ r a. a) refl h same
 comes_refused Is tell made outcome starts steps held now old store left number faults.Keeper h same = refused_by Is tell made outcome starts steps held now old store left number faults.Keeper (Outside Keeper) refusals.Keeper (λ r a. a) refl h same
 comes_refused Is tell made outcome starts steps held now old store left number faults.NoMemory h same = gives_up_idly steps held now old (called old store left) refl refl h.told
 
 -- the keeper's own fault
-unshaken_keeper : (e : HandFault) → IsErrOf {T = List ℕ} (Err (of_hand e)) (unanswered.Refused refusals.Keeper) → e ≡ faults.Keeper
+unshaken_keeper : (e : CallFault HandRefusal) → IsErrOf {T = List ℕ} (Err (of_hand e)) (unanswered.Refused refusals.Keeper) → e ≡ faults.Keeper
 unshaken_keeper (faults.Journal k) h = cc
-unshaken_keeper (faults.Form member) h = cc
-unshaken_keeper faults.NoCommonCapability h = cc
-unshaken_keeper faults.NoCommonSuite h = cc
-unshaken_keeper (faults.PolicyDiffers found.Same own other) h = cc
-unshaken_keeper (faults.PolicyDiffers (found.Mapping k) own other) h = cc
-unshaken_keeper (faults.PolicyDiffers found.Types own other) h = cc
-unshaken_keeper faults.ContextUsed h = cc
-unshaken_keeper faults.NotExpected h = cc
-unshaken_keeper faults.ContextNotFound h = cc
-unshaken_keeper faults.Limit h = cc
+unshaken_keeper (faults.Refused e) h = cc
 unshaken_keeper faults.Keeper h = refl
 unshaken_keeper faults.NoMemory h = cc
 
 -- ---- what a handler owes
 
 -- what is said of the keeper after a call
-pub record KeeperStands {X : Type 0} (now : Option (List (List ℕ))) (before after_ : ℕ) (store : Stored) (call : Result X HandFault) : Type 0 where
+pub record KeeperStands {X : Type 0} (now : Option (List (List ℕ))) (before after_ : ℕ) (store : Stored) (call : Result X (CallFault HandRefusal)) : Type 0 where
   pub consistent : IsConsistent now store
   pub later : before ≤ after_
   pub failed : IsErrOf call faults.Keeper → Rose before after_
 
 pub handles_called : {X T : Type 0} (Is : X → T → Type 0) (tell : T → Answer) (made : T → Option Document) (told : X → Answer) (sent : X → Option Tree) (outcome : Choice → List Record → Outcome handshake.Refusal T) (starts : Choice → List Record → List Start) (steps : State → Choice → Step)
-    (held now : Option (List (List ℕ))) (before after_ : ℕ) (old : World) (store : Stored) (left : List Start) (new : World) (number : ℕ) (call : Result X HandFault) (result : Result (List ℕ) Unanswered)
+    (held now : Option (List (List ℕ))) (before after_ : ℕ) (old : World) (store : Stored) (left : List Start) (new : World) (number : ℕ) (call : Result X (CallFault HandRefusal)) (result : Result (List ℕ) Unanswered)
     → ((x : X) (t : T) → Is x t → Seen (tell t) (made t) (told x) (sent x)) → Called Is outcome starts held now old.store store left call
     → ((records : List Record) (f : Choice) → steps (state_of old records) f ≡ shakes (state_of old records) tell made (starts f records) (outcome f records))
     → KeeperStands now before after_ store call → IsSound old → Concludes told sent number (called old store left) new call result → Handles steps held now before after_ old new number result

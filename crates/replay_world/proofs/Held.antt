@@ -21,7 +21,7 @@ use Rattle.spec_script.specs.Output.{has_refusal, is_signer_refusal, is_verifier
 use Rattle.replay_world.specs.Outsiders.{OfSigner, Told, Acting, IsMeant, IsVerified, IsActing, Acted, by, line_steps}
 use Rattle.spec_handshake.specs.Starts.{Start}
 use Rattle.spec_script.specs.Steps as spec
-use Rattle.spec_script.specs.Steps.{State, Answer, Fine, OnWire, Sends, Forwards, Delivers, Reports, Step, Refuses, after, with_sent, line_step, Opens, OpensAs, EndsTls}
+use Rattle.spec_script.specs.Steps.{Answer, Fine, OnWire, Sends, Forwards, Delivers, Reports, Step, Refuses, with_sent, line_step, Opens, OpensAs, EndsTls}
 use Rattle.replay_world.specs.Worlds.{sites_view, state_of, TellsRecords, StepsOver, Steps}
 use Rattle.replay_world.specs.Stepping.{StepBy, Makes, TellsText, LineComes}
 use Rattle.replay_world.specs.declared.world.World.{World}

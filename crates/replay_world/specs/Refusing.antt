@@ -12,6 +12,7 @@ use Rattle.context_store.specs.declared.faults.OpenFault.{OpenFault}
 use Rattle.context_store.specs.declared.faults.OpenFault.TheVariants as opening
 use Rattle.context_store.specs.declared.call_faults.CallFault.{CallFault}
 use Rattle.context_store.specs.declared.call_faults.CallFault.TheVariants as calling
+use Rattle.n32c_handshake.specs.declared.refusal.HandRefusal.{HandRefusal}
 use Rattle.sending_sepp.specs.declared.fault.SendFault.{SendFault}
 use Rattle.receiving_sepp.specs.declared.refused.Refused.{Refused}
 use Rattle.script_lines.specs.declared.refusal.Refusal.{Refusal}
@@ -38,6 +39,9 @@ of_call refusal calling.NoMemory = unanswered.NoMemory
 
 abbrev pub of_sending : CallFault SendFault → Unanswered
 of_sending fault = of_call (λ refusal. refusals.Sending refusal) fault
+
+abbrev pub of_hand : CallFault HandRefusal → Unanswered
+of_hand fault = of_call (λ refusal. refusals.Handshake refusal) fault
 
 abbrev pub of_passing : PassFault → Unanswered
 of_passing (passing.Form part) = unanswered.Refused (refusals.Form part)

@@ -9,18 +9,16 @@ use Rattle.spec_script.specs.Refusals.{Refusal, NodeUnknown, WireUnknown, Beyond
 use Rattle.spec_script.specs.Offers.{HandedOffer, offer_of}
 use Rattle.spec_script.specs.Answers.{answer_text}
 use Rattle.spec_script.specs.Steps.{Site, Answer, Forwards, Opens, OpensAs, EndsTls, plmn_at, policy_to_hold, wire_at}
-use Rattle.n32c_handshake.specs.declared.fault.HandFault.{HandFault}
-use Rattle.n32c_handshake.specs.declared.fault.HandFault.TheVariants as faults
+use Rattle.context_store.specs.declared.call_faults.CallFault.{CallFault}
+use Rattle.n32c_handshake.specs.declared.refusal.HandRefusal.{HandRefusal}
 use Rattle.n32c_handshake.specs.declared.replying.Replied.{Replied}
 use Rattle.n32c_handshake.specs.declared.replying.Replied.TheVariants as replied
 use Rattle.n32c_handshake.specs.declared.finishing.Finished.{Finished}
 use Rattle.n32c_handshake.specs.declared.finishing.Finished.TheVariants as finished
 use Rattle.n32_values.specs.declared.memory.NoMemory.{NoMemory}
-use Rattle.policy_documents.specs.declared.same.PolicyMatch.TheVariants as found
-use Rattle.script_lines.specs.declared.hand_refusal.HandRefusal.TheVariants as hand
-use Rattle.script_lines.specs.declared.refusal.Refusal.TheVariants as refusals
 use Rattle.script_lines.specs.declared.unanswered.Unanswered.{Unanswered}
 use Rattle.script_lines.specs.declared.unanswered.Unanswered.TheVariants as unanswered
+use Rattle.replay_world.specs.Refusing.{of_hand}
 use Rattle.replay_world.specs.Wires.{HasMore}
 use Rattle.replay_world.specs.declared.world.World.{World}
 
@@ -45,23 +43,6 @@ abbrev pub offer_to_hold : HandedOffer → Result Offer Refusal
 offer_to_hold x = do
   policy ← policy_to_hold x.policy
   Ok (offer_of x policy)
-
--- ---- what is told of a fault
-
--- that policies which are the same differ is told by no call
-abbrev pub of_hand : HandFault → Unanswered
-of_hand (faults.Journal number) = unanswered.Refused (refusals.Journal number)
-of_hand (faults.Form member) = unanswered.Refused (refusals.Handshake (hand.Form member))
-of_hand faults.NoCommonCapability = unanswered.Refused (refusals.Handshake hand.NoCommonCapability)
-of_hand faults.NoCommonSuite = unanswered.Refused (refusals.Handshake hand.NoCommonSuite)
-of_hand (faults.PolicyDiffers (found.Mapping number) own other) = unanswered.Refused (refusals.Handshake (hand.MappingDiffers number own other))
-of_hand (faults.PolicyDiffers _ own other) = unanswered.Refused (refusals.Handshake hand.TypesDiffer)
-of_hand faults.ContextUsed = unanswered.Refused (refusals.Handshake hand.ContextUsed)
-of_hand faults.NotExpected = unanswered.Refused (refusals.Handshake hand.NotExpected)
-of_hand faults.ContextNotFound = unanswered.Refused (refusals.Handshake hand.ContextNotFound)
-of_hand faults.Limit = unanswered.Refused (refusals.Handshake hand.Limit)
-of_hand faults.Keeper = unanswered.Refused refusals.Keeper
-of_hand faults.NoMemory = unanswered.NoMemory
 
 -- ---- what is told of a call that is done
 
@@ -98,7 +79,7 @@ Says number old new a sent (Ok text) = (text ≡ answer_text number a) × HasSen
 Says number old new a sent (Err e) = new ≡ old
 
 -- what is told of a call, and what it leaves of the world
-abbrev pub Concludes : {X : Type 0} → (X → Answer) → (X → Option Tree) → (number : ℕ) → (old new : World) → Result X HandFault → Result (List ℕ) Unanswered → Type 0
+abbrev pub Concludes : {X : Type 0} → (X → Answer) → (X → Option Tree) → (number : ℕ) → (old new : World) → Result X (CallFault HandRefusal) → Result (List ℕ) Unanswered → Type 0
 Concludes told sent number old new (Ok x) (Ok text) = (text ≡ answer_text number (told x)) × HasSent old new (sent x)
 Concludes told sent number old new (Ok x) (Err why) = (why ≡ unanswered.NoMemory) × (new ≡ old)
 Concludes told sent number old new (Err fault) (Ok text) = ⊥

@@ -1,12 +1,13 @@
 // Faults of the store and of the calls of a SEPP, as they are told of an event.
 ghost use Rattle.std.specs.Prelude.{◌≡◌};
-ghost use Rattle.replay_world.specs.Refusing.{Undelivers, of_adding, of_opening, of_passing, of_sending};
+ghost use Rattle.replay_world.specs.Refusing.{Undelivers, of_adding, of_hand, of_opening, of_passing, of_sending};
 
 use crate::reporting::report_on;
 use block_forms::LimitName;
 use context_store::{AddFault, OpenFault};
 use ipx_node::PassFault;
 use n32_values::Doc;
+use n32c_handshake::HandFault;
 use receiving_sepp::AcceptFault;
 use script_lines::{Refusal, Unanswered};
 use sending_sepp::ProtectFault;
@@ -40,6 +41,17 @@ pub(crate) fn unsent(fault: ProtectFault) -> Unanswered
         ProtectFault::Journal(number) => Unanswered::Refused(Refusal::Journal(number)),
         ProtectFault::Keeper => Unanswered::Refused(Refusal::Keeper),
         ProtectFault::NoMemory => Unanswered::NoMemory,
+    }
+}
+
+pub(crate) fn unshaken(fault: HandFault) -> Unanswered
+    ensures { result ≡ of_hand fault }
+{
+    match fault {
+        HandFault::Refused(refusal) => Unanswered::Refused(Refusal::Handshake(refusal)),
+        HandFault::Journal(number) => Unanswered::Refused(Refusal::Journal(number)),
+        HandFault::Keeper => Unanswered::Refused(Refusal::Keeper),
+        HandFault::NoMemory => Unanswered::NoMemory,
     }
 }
 

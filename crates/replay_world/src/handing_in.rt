@@ -1,13 +1,11 @@
 // Contexts and keys that are handed in.
-ghost use Rattle.std.specs.Prelude.{◌≡◌, ◌≤◌, true, codes, IsErrOf, IsTrue};
-ghost use Rattle.n32_outside.specs.Causes.{Rose};
+ghost use Rattle.std.specs.Prelude.{◌≡◌, true, codes, IsTrue};
 ghost use Rattle.spec_documents.specs.Text.{is_node_name};
 ghost use Rattle.spec_records.specs.Records as records;
 ghost use Rattle.spec_records.specs.RecordDocument.{is_well_named};
 ghost use Rattle.context_records.specs.View.{context_view, key_set_view, record_view};
 ghost use Rattle.script_lines.specs.View.{handed_view};
 ghost use Rattle.spec_script.specs.Events.{AddContext, AddKeys};
-ghost use Rattle.spec_script.specs.Steps as spec;
 ghost use Rattle.spec_documents.specs.Gives.{Gives};
 ghost use Rattle.script_lines.specs.Unanswered.{SparesKeeper, told_refusal};
 ghost use Rattle.replay_world.specs.Worlds.{IsReady};

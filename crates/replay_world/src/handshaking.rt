@@ -11,9 +11,10 @@ ghost use Rattle.replay_world.specs.Fitting.{IsFit};
 ghost use Rattle.replay_world.specs.Handling.{Handles};
 ghost use Rattle.replay_world.specs.Outsiders.{unasked};
 ghost use Rattle.replay_world.specs.Shaking as shaking;
-ghost use Rattle.replay_world.specs.Shaking.{Concludes, Says, of_hand};
+ghost use Rattle.replay_world.specs.Shaking.{Concludes, Says};
 ghost use Rattle.replay_world.specs.Worlds.{IsReady, sites_view};
 
+use crate::faults::unshaken;
 use crate::sites::plmn_of;
 use crate::wire::{document_at, is_full, put_made, put_opening};
 use crate::world::{SiteList, World};
@@ -21,8 +22,8 @@ use block_forms::LimitName;
 use n32_outside::Keeper;
 use n32_values::{Bytes, Doc, DocList, Hex64, NoMemory, PlmnId, Text, Whole};
 use n32c_handshake::{Finished, HandFault, Offer, Replied};
-use policy_documents::{PolicyMatch, PolicyRead, read_policy};
-use script_lines::{HandRefusal, HandedOffer, Refusal, Unanswered, ended_text, opened_text};
+use policy_documents::{PolicyRead, read_policy};
+use script_lines::{HandedOffer, Refusal, Unanswered, ended_text, opened_text};
 use std::alloc::Global;
 
 // ---- checks before a call
@@ -94,30 +95,6 @@ fn offer_of(alloc: Global, handed: HandedOffer) -> Result<Offer, Unanswered>
         policy,
         ipx,
     })
-}
-
-// ---- faults
-
-fn unshaken(fault: HandFault) -> Unanswered
-    ensures { result ≡ of_hand fault }
-{
-    let refusal = match fault {
-        HandFault::Journal(number) => return Unanswered::Refused(Refusal::Journal(number)),
-        HandFault::Keeper => return Unanswered::Refused(Refusal::Keeper),
-        HandFault::NoMemory => return Unanswered::NoMemory,
-        HandFault::PolicyDiffers { at, own, other } => match at {
-            PolicyMatch::Mapping(number) => HandRefusal::MappingDiffers { number, own, other },
-            _ => HandRefusal::TypesDiffer,
-        },
-        HandFault::Form(member) => HandRefusal::Form(member),
-        HandFault::NoCommonCapability => HandRefusal::NoCommonCapability,
-        HandFault::NoCommonSuite => HandRefusal::NoCommonSuite,
-        HandFault::ContextUsed => HandRefusal::ContextUsed,
-        HandFault::NotExpected => HandRefusal::NotExpected,
-        HandFault::ContextNotFound => HandRefusal::ContextNotFound,
-        HandFault::Limit => HandRefusal::Limit,
-    };
-    Unanswered::Refused(Refusal::Handshake(refusal))
 }
 
 // ---- what a call comes to

@@ -1,11 +1,10 @@
 // Documents on their way: passed on by an intermediary, and altered.
-ghost use Rattle.std.specs.Prelude.{◌≡◌, ◌≤◌, map as list_map, IfOk};
+ghost use Rattle.std.specs.Prelude.{map as list_map, IfOk};
 ghost use Rattle.n32_values.specs.View.{tree_of};
 ghost use Rattle.json_patch6902.specs.View.{op_view};
 ghost use Rattle.spec_script.specs.Altering as altering;
 ghost use Rattle.spec_script.specs.Events.{Alter, Pass};
 ghost use Rattle.spec_documents.specs.Gives.{Gives};
-ghost use Rattle.spec_documents.specs.Tree.{depth as nesting};
 ghost use Rattle.script_lines.specs.Unanswered.{SparesKeeper, told_refusal};
 ghost use Rattle.replay_world.specs.Outsiders.{Signed, SignerStays, all_pass, event_steps, of_signer, only_signs, unasked};
 ghost use Rattle.replay_world.specs.Worlds.{IsShallow, IsSound};

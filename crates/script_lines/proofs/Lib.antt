@@ -1,4 +1,3 @@
 pub mod Told
 pub mod EventNames
 pub mod LineTree
-pub mod HandTexts

@@ -9,10 +9,7 @@ use Rattle.context_records.specs.View.{suite_view, key_set_view}
 use Rattle.sending_sepp.specs.Sending as sending
 use Rattle.receiving_sepp.specs.Views.{refused_view}
 use Rattle.spec_exchange.specs.Outside as outside
-use Rattle.spec_messages.specs.Limits.{many_records}
-use Rattle.spec_handshake.specs.Differences.{AtMapping, InTypes}
-use Rattle.spec_handshake.specs.Refusals as handshake
-use Rattle.n32c_handshake.specs.Members.{member_name as hand_member}
+use Rattle.n32c_handshake.specs.Faults as hands
 use Rattle.n32c_handshake.specs.View.{capability_view}
 use Rattle.spec_script.specs.Offers as offers
 use Rattle.spec_script.specs.Events as events
@@ -21,8 +18,6 @@ use Rattle.script_lines.specs.declared.event.HandedContext.{HandedContext}
 use Rattle.script_lines.specs.declared.event.Event.{Event}
 use Rattle.script_lines.specs.declared.event.Event.TheVariants.{Node, Context, Keys, Send, Inject, Deliver, Restart, Pass, Alter, Reported, Start, Answer, Finish, Terminate, Ended}
 use Rattle.script_lines.specs.declared.offer.HandedOffer.{HandedOffer}
-use Rattle.script_lines.specs.declared.hand_refusal.HandRefusal.{HandRefusal}
-use Rattle.script_lines.specs.declared.hand_refusal.HandRefusal.TheVariants as hand
 use Rattle.script_lines.specs.declared.refusal.Refusal.{Refusal}
 use Rattle.script_lines.specs.declared.refusal.Refusal.TheVariants as refusals
 
@@ -63,17 +58,6 @@ event_view (Ended node wire) = events.EndBy node wire
 
 -- ---- refusals
 
-abbrev pub hand_view : HandRefusal → handshake.Refusal
-hand_view (hand.Form member) = handshake.BadForm (hand_member member)
-hand_view hand.NotExpected = handshake.NotExpected
-hand_view hand.NoCommonCapability = handshake.NoCommonCapability
-hand_view hand.NoCommonSuite = handshake.NoCommonSuite
-hand_view (hand.MappingDiffers number own other) = handshake.PolicyDiffers (AtMapping number own other)
-hand_view hand.TypesDiffer = handshake.PolicyDiffers InTypes
-hand_view hand.ContextUsed = handshake.ContextUsed
-hand_view hand.ContextNotFound = handshake.ContextNotFound
-hand_view hand.Limit = handshake.Beyond many_records
-
 abbrev pub refusal_view : Refusal → spec.Refusal
 refusal_view refusals.Syntax = spec.Syntax
 refusal_view refusals.Number = spec.OtherNumber
@@ -95,4 +79,4 @@ refusal_view (refusals.Receiving refused report) = spec.OfReceiving (refused_vie
 refusal_view (refusals.Journal number) = spec.OfOutside (outside.Journal number)
 refusal_view refusals.Keeper = spec.OfOutside outside.Keeper
 refusal_view refusals.Signer = spec.SignerFailed
-refusal_view (refusals.Handshake refusal) = spec.OfHandshake (hand_view refusal)
+refusal_view (refusals.Handshake refusal) = spec.OfHandshake (hands.refusal_view refusal)

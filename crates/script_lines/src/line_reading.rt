@@ -27,11 +27,7 @@ pub fn read_line(alloc: Global, line: &[u8]) -> Result<Doc, Unanswered>
 }
 
 /// The document of a line, as `read_line` reads it, in room that is kept from one line to the next.
-pub fn read_line_in(
-    alloc: Global,
-    line: &[u8],
-    room: &mut ReadingRoom,
-) -> Result<Doc, Unanswered>
+pub fn read_line_in(alloc: Global, line: &[u8], room: &mut ReadingRoom) -> Result<Doc, Unanswered>
     ensures gives { Gives told_refusal (λ d. d) result (line_tree line.now) }
     ensures shallow { IfOk result (λ d. nesting d ≤ 127) }
     ensures spares { SparesKeeper result }

@@ -4,10 +4,10 @@ ghost use Rattle.spec_script.specs.Answers.{report_of};
 ghost use Rattle.spec_script.specs.RefusalTexts.{telling};
 ghost use Rattle.script_lines.specs.View.{refusal_view};
 
-use crate::hand_refusal::HandRefusal;
 use block_forms::LimitName;
 use http_message::MessageMember;
 use n32_values::Doc;
+use n32c_handshake::HandRefusal;
 use prins_document::WireMember;
 use receiving_sepp::Refused;
 use sending_sepp::SendFault;
@@ -60,7 +60,7 @@ pub enum Refusal {
     Keeper,
     /// The signer failed.
     Signer,
-    /// A call of a handshake comes to nothing.
+    /// A call of a handshake is refused.
     Handshake(HandRefusal),
 }
 

@@ -6,10 +6,10 @@ use context_records::words::read_ipx;
 use n32_values::{
     Doc, Hex64, Node, NodeList, NodeMap, PlmnId, Text, TextList, copy_doc, read_hex64, read_plmn,
 };
-use n32c_handshake::{HandFault, Offer, read_capabilities, read_suites};
-use policy_documents::{Policy, PolicyMatch, read_policy};
+use n32c_handshake::{HandFault, HandRefusal, Offer, read_capabilities, read_suites};
+use policy_documents::{Policy, read_policy};
 use std::alloc::Global;
-use worked_rows::{fault_node, map_node, number_node, number_of, put_part, text_node};
+use worked_rows::{fault_node, map_node, member_node, number_node, number_of, put_part};
 
 /// What a step gives, each where it has it.
 #[derive(Drop)]
@@ -140,44 +140,39 @@ fn side_node(side: Option<Doc>) -> Node {
 fn put_mappings(
     alloc: Global,
     map: &mut NodeMap,
-    at: PolicyMatch,
+    number: u32,
     own: Option<Doc>,
     other: Option<Doc>,
 ) -> Option<()> {
-    match at {
-        PolicyMatch::Mapping(number) => {
-            put_part(alloc, map, "mapping", Some(number_node(number)))?;
-            put_part(alloc, map, "own", Some(side_node(own)))?;
-            put_part(alloc, map, "other", Some(side_node(other)))
-        }
-        _ => put_part(alloc, map, "types", Some(Node::Null)),
-    }
+    put_part(alloc, map, "mapping", Some(number_node(number)))?;
+    put_part(alloc, map, "own", Some(side_node(own)))?;
+    put_part(alloc, map, "other", Some(side_node(other)))
 }
 
-// As `{"mapping":0,"other":null,"own":{..}}`, or with `types`.
-fn difference_node(
-    alloc: Global,
-    at: PolicyMatch,
-    own: Option<Doc>,
-    other: Option<Doc>,
-) -> Option<Node> {
+// As `{"mapping":0,"other":null,"own":{..}}`.
+fn mappings_node(alloc: Global, number: u32, own: Option<Doc>, other: Option<Doc>) -> Option<Node> {
     let mut map = NodeMap::new(alloc);
-    let done = put_mappings(alloc, &mut map, at, own, other);
+    let done = put_mappings(alloc, &mut map, number, own, other);
     map_node(map, done)
 }
 
-/// Why a call of a handshake is refused.
+// A refusal by its member, its mappings or `types`, and else by its name.
+fn refused_node(alloc: Global, refusal: HandRefusal) -> Option<Node> {
+    match refusal {
+        HandRefusal::Form(member) => fault_node(alloc, member.name()),
+        HandRefusal::MappingDiffers { number, own, other } => {
+            mappings_node(alloc, number, own, other)
+        }
+        HandRefusal::TypesDiffer => member_node(alloc, "types", Node::Null),
+        other => fault_node(alloc, other.name()),
+    }
+}
+
+/// Why a call of a handshake gives nothing.
 pub fn refusal_node(alloc: Global, fault: HandFault) -> Option<Node> {
     match fault {
-        HandFault::Form(member) => fault_node(alloc, member.name()),
-        HandFault::PolicyDiffers { at, own, other } => difference_node(alloc, at, own, other),
+        HandFault::Refused(refusal) => refused_node(alloc, refusal),
         HandFault::Journal(_) => fault_node(alloc, "JOURNAL"),
-        HandFault::NoCommonCapability => fault_node(alloc, "NO_COMMON_CAPABILITY"),
-        HandFault::NoCommonSuite => fault_node(alloc, "NO_COMMON_SUITE"),
-        HandFault::ContextUsed => fault_node(alloc, "CONTEXT_USED"),
-        HandFault::NotExpected => fault_node(alloc, "NOT_EXPECTED"),
-        HandFault::ContextNotFound => fault_node(alloc, "CONTEXT_NOT_FOUND"),
-        HandFault::Limit => fault_node(alloc, "LIMIT"),
         HandFault::Keeper => fault_node(alloc, "KEEPER"),
         HandFault::NoMemory => None,
     }

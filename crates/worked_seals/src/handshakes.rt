@@ -1,7 +1,7 @@
 // The calls of `n32c_handshake`, as scenarios. A row lists `steps` of nodes, which are played one after the other over
 // one keeper in memory, whose calls `fails` fail, one store, and the starts that wait. A document that a step makes goes
 // last in a list, and a later step takes it by its number `wire`.
-ghost use Rattle.std.specs.Prelude.{◌≡◌, false, Some, IsTrue};
+ghost use Rattle.std.specs.Prelude.{◌≡◌, false, Some, IfSome, IsTrue};
 ghost use Rattle.spec_documents.specs.Text.{is_node_name};
 ghost use Rattle.spec_records.specs.RecordDocument.{are_ipx};
 ghost use Rattle.context_store.specs.Stores.{IsConsistent};
@@ -11,7 +11,7 @@ use crate::handshake_steps::{Step, offer_in, read_step, refusal_node};
 use context_store::{Store, new_store};
 use doc_forms::Grammar;
 use n32_outside::{FailItem, FailList, Keeper, MemKeeper};
-use n32_values::{Doc, Hex64, Node, NodeList, NodeMap, Text};
+use n32_values::{Doc, Hex64, Node, NodeList, NodeMap, PlmnId, Text};
 use n32c_handshake::{
     Finished, HandFault, Hands, Offer, Replied, answer, ended, finish, start, terminate,
 };
@@ -98,49 +98,24 @@ fn is_node(node: &Text) -> bool
     Grammar::NodeName.fits(node.as_str())
 }
 
-fn started(
-    alloc: Global,
-    hands: &mut Hands,
-    store: &mut Store,
-    keeper: &mut MemKeeper,
-    wires: &mut NodeList,
-    step: &Step,
+/// A node, its network and what it offers.
+#[derive(Drop)]
+struct Offering<'a> {
+    node: &'a Text,
+    plmn: &'a PlmnId,
     offer: Offer,
-) -> Option<Node>
-    requires offer { IsTrue (are_ipx offer.ipx) }
-    requires consistent { IsConsistent (Some (keeper_held keeper.old)) store.old }
-    ensures { IsConsistent (Some (keeper_held keeper.new)) store.new }
-{
-    match (&step.node, &step.plmn, &step.peer) {
-        (Some(node), Some(plmn), Some(peer)) => {
-            if is_node(node) && is_node(peer) {
-                let made = start(alloc, hands, store, keeper, node, plmn, peer, offer);
-                made_node(alloc, wires, made)
-            } else {
-                None
-            }
-        }
-        _ => None,
-    }
 }
 
-fn answered(
-    alloc: Global,
-    store: &mut Store,
-    keeper: &mut MemKeeper,
-    wires: &mut NodeList,
-    step: &Step,
-    offer: Offer,
-) -> Option<Node>
-    requires offer { IsTrue (are_ipx offer.ipx) }
-    requires consistent { IsConsistent (Some (keeper_held keeper.old)) store.old }
-    ensures { IsConsistent (Some (keeper_held keeper.new)) store.new }
+// What a node offers in a step: its name and the offer's intermediaries have their form.
+fn offering_in<'a>(alloc: Global, args: Args<'_>, step: &'a Step) -> Option<Offering<'a>>
+    ensures node { IfSome result (λ by. IsTrue (is_node_name by.node.now)) }
+    ensures offer { IfSome result (λ by. IsTrue (are_ipx by.offer.ipx)) }
 {
-    match (&step.node, &step.plmn, &step.document) {
-        (Some(node), Some(plmn), Some(document)) => {
+    let offer = offer_in(alloc, args.document("offer"));
+    match (&step.node, &step.plmn, offer) {
+        (Some(node), Some(plmn), Some(offer)) => {
             if is_node(node) {
-                let replied = answer(alloc, store, keeper, node, plmn, offer, document);
-                replied_node(alloc, wires, replied)
+                Some(Offering { node, plmn, offer })
             } else {
                 None
             }
@@ -161,9 +136,18 @@ fn play_start(
     requires consistent { IsConsistent (Some (keeper_held keeper.old)) store.old }
     ensures { IsConsistent (Some (keeper_held keeper.new)) store.new }
 {
-    match offer_in(alloc, args.document("offer")) {
-        Some(offer) => started(alloc, hands, store, keeper, wires, step, offer),
-        None => None,
+    match (offering_in(alloc, args, step), &step.peer) {
+        (Some(by), Some(peer)) => {
+            if is_node(peer) {
+                let made = start(
+                    alloc, hands, store, keeper, by.node, by.plmn, peer, by.offer,
+                );
+                made_node(alloc, wires, made)
+            } else {
+                None
+            }
+        }
+        _ => None,
     }
 }
 
@@ -178,9 +162,12 @@ fn play_answer(
     requires consistent { IsConsistent (Some (keeper_held keeper.old)) store.old }
     ensures { IsConsistent (Some (keeper_held keeper.new)) store.new }
 {
-    match offer_in(alloc, args.document("offer")) {
-        Some(offer) => answered(alloc, store, keeper, wires, step, offer),
-        None => None,
+    match (offering_in(alloc, args, step), &step.document) {
+        (Some(by), Some(document)) => {
+            let replied = answer(alloc, store, keeper, by.node, by.plmn, by.offer, document);
+            replied_node(alloc, wires, replied)
+        }
+        _ => None,
     }
 }
 

@@ -1,21 +1,21 @@
-// Refusals of the calls of a handshake, with their numbers, names and details.
+// Why a call of the handshake is refused, with numbers, names and details.
 ghost use Rattle.std.specs.Prelude.{◌≡◌, ◌++◌, ◌∷◌, IfOk, option_map};
 ghost use Rattle.std.specs.Fmt.{decimal};
 ghost use Rattle.spec_documents.specs.Compact.{compact_text};
 ghost use Rattle.spec_handshake.specs.Differences.{side_text};
 ghost use Rattle.spec_handshake.specs.Refusals.{telling};
-ghost use Rattle.script_lines.specs.View.{hand_view};
+ghost use Rattle.n32c_handshake.specs.Faults.{refusal_view};
 
+use crate::member::HandMember;
 use n32_values::{Doc, NoMemory, Text, doc_text};
-use n32c_handshake::HandMember;
 use std::alloc::Global;
 
-/// Why a call of a handshake comes to nothing.
+/// Why a call of the handshake is refused.
 #[derive(Drop)]
 pub enum HandRefusal {
     /// This is the first member of the document that is missing or has not its form.
     Form(HandMember),
-    /// The document is none that the call takes, or that a start waits for.
+    /// The document is none that the call takes, or none that a start waits for.
     NotExpected,
     /// Both sides have no capability in common, or one was chosen that wasn't offered.
     NoCommonCapability,
@@ -43,7 +43,7 @@ pub enum HandRefusal {
 impl HandRefusal {
     /// The number that stands for the refusal in an answer.
     pub fn number(&self) -> u64
-        ensures { result ≡ (telling (hand_view self.now)).number }
+        ensures { result ≡ (telling (refusal_view self.now)).number }
     {
         match self {
             HandRefusal::Form(_) => 40,
@@ -60,7 +60,7 @@ impl HandRefusal {
 
     /// The refusal's name in an answer.
     pub fn name(&self) -> &'static str
-        ensures { result.now ≡ (telling (hand_view self.now)).name }
+        ensures { result.now ≡ (telling (refusal_view self.now)).name }
     {
         match self {
             HandRefusal::Form(_) => "HS_FORM",
@@ -76,8 +76,11 @@ impl HandRefusal {
     }
 
     /// What the refusal names besides: a member, `records`, the first mapping on both sides, or `types`.
+    ///
+    /// # Errors
+    /// `NoMemory` where memory was refused.
     pub fn detail(&self, alloc: Global) -> Result<Option<Text>, NoMemory>
-        ensures { IfOk result (λ d. d ≡ (telling (hand_view self.now)).detail) }
+        ensures { IfOk result (λ d. d ≡ (telling (refusal_view self.now)).detail) }
     {
         let text = match self {
             HandRefusal::Form(member) => Text::from_text(alloc, member.name())?,
@@ -93,7 +96,7 @@ impl HandRefusal {
 }
 
 // The compact text of a document, which is UTF-8.
-#[tactic(auto, using(crate::proofs::HandTexts::lossless))]
+#[tactic(auto, using(crate::proofs::Texts::lossless))]
 fn text_of(alloc: Global, document: &Doc) -> Result<Text, NoMemory>
     ensures { IfOk result (λ t. t ≡ compact_text document.now) }
 {
