@@ -22,7 +22,6 @@ use crate::read::read_document;
 use crate::refusal::HandRefusal;
 use crate::suites::common_suite;
 use crate::write::{chooses_doc, selects_doc};
-use crate::refusal::HandRefusal;
 use context_records::Context;
 use context_store::{CallFault, Store};
 use n32_outside::Keeper;
