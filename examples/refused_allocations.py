@@ -10,7 +10,7 @@ one by a `malloc` and `realloc` of its own, which is compiled with `cc` and prel
 
 needs the toolchain and no built program. `rt try --fail-alloc` refuses one allocation of a program, by its number, and builds for each
 number anew. So it is given one number here and many cases (--cases): in case k crates/failing_runs makes NUMBER - k allocations before
-it plays. The cases are those from FIRST to LAST (0 and 3200), each STEP-th (1), and one in which none is refused. A case takes half a
+it plays. The cases are those from FIRST to LAST (0 and 1400), each STEP-th (1), and one in which none is refused. A case takes half a
 second and more, as each is interpreted too.
 
 WORD is `replay` (the default), which plays the first script of crates/failing_runs, or `blocks`, for the first line of
@@ -126,7 +126,7 @@ def main():
                 return try_program(sys.argv[2], word, file.read())
         return try_program(sys.argv[2], word, default_script(word))
     word = sys.argv[1] if len(sys.argv) > 1 else "replay"
-    first, last, step = ([int(number) for number in sys.argv[2:]] + [0, 3200, 1][len(sys.argv[2:]) :])[:3]
+    first, last, step = ([int(number) for number in sys.argv[2:]] + [0, 1400, 1][len(sys.argv[2:]) :])[:3]
     found = outcomes(word, default_script(word), [*range(first, last + 1, step), NUMBER])
     ended, status, whole = found.pop(NUMBER)
     if (ended, status) != ("ended", 0):
